@@ -1,0 +1,85 @@
+-- Conformance to curveType and parametricCurveType, both ways: a curve that is laid out as the standard says, and keeps within what
+-- this library asks besides, is accepted with its fields; and what is accepted is laid out so. The reserved bytes are not looked at.
+-- Assumes nothing.
+use Prim.Native.Nat.{ℕ, _+_, _*_, _≤_}
+use native.Mathlib.Omega.{arith}
+use mathlib.Core.Path.{_≡_, refl, sym, subst, _∙_}
+use mathlib.Core.Bool.{Bool, true, false, cond, _&&_, false≢true}
+use mathlib.Core.List.{List}
+use lib.Dec.{ltb, leb, eqb}
+use lib.ListN.{length, getD, take, drop}
+use borrow.Author.Tests.{eq-eqb, ne-eqb, le-ltb, lt-ltb, ltb-false, eqb-true, eqb-false}
+use Rattle.fields.specs.Bytes.{u16At, u32At}
+use Rattle.fields.specs.Tag.{signatureOf}
+use Rattle.fields.specs.declared.Kind.the-variants.{Curv, Para}
+use Rattle.fields.proofs.Choice.{each, second-fails}
+use Rattle.curve.specs.Answer.{Answer, value, answerOf}
+use Rattle.curve.specs.Curve.{trcOf, curveOf, tableOf, paraOf, divides, tagOf}
+use Rattle.curve.specs.Layout.{CurveType, ParametricCurveType, parameterCount, parameters}
+use Rattle.curve.specs.Shape.{Shape, Seen, is, no, empty, table, para, wordsOf, stepOf}
+use Rattle.curve.specs.Standard.{Laid, WellFormed, Within}
+use Rattle.curve.specs.declared.Walk.{Walk}
+
+-- ---- what is laid out so is accepted
+
+-- a function that does not divide by 0
+steep : (type a : ℕ) → (divides type ≡ true → a ≡ 0 → ⊥) → divides type && eqb a 0 ≡ false
+steep type a h = by (divides type) refl
+  where
+    by : (d : Bool) → divides type ≡ d → d && eqb a 0 ≡ false
+    by true e = ne-eqb a 0 (h e)
+    by false e = refl
+
+pub accepted : (limit : ℕ) (t : List ℕ) (s : Shape) → Laid t s → Within limit s → curveOf limit t ≡ is s
+unfolding Laid Within curveOf tableOf paraOf signatureOf
+accepted limit t empty h w =
+    let l : 12 ≤ length t = omega (arith, h .whole) in
+    simp (le-ltb (length t) 12 l, h .signature, h .count)
+accepted limit t (table n) (m, h) w =
+    let l : 12 ≤ length t = omega (arith, h .whole) in
+    let z : n ≡ 0 → ⊥ = λ e. omega arith in
+    simp (le-ltb (length t) 12 l, h .signature, h .count, ne-eqb n 0 z, le-ltb limit n w, le-ltb (length t) (12 + 2 * n) (h .whole))
+accepted limit t (para type ps) h w =
+    let l : 12 ≤ length t = omega (arith, h .whole) in
+    simp (le-ltb (length t) 12 l, h .signature, h .function, le-ltb 4 type (h .known), le-ltb (length t) (12 + 4 * parameterCount type) (h .whole), simp (h .function) at (h .given), steep type (getD ps 1 0) w)
+
+pub conforms : (limit : ℕ) (t : List ℕ) (s : Shape) → WellFormed t s → Within limit s → curveOf limit t ≡ is s
+conforms limit t s h w = accepted limit t s (h .laid) w
+
+-- ---- what is accepted is laid out so
+
+Facts : ℕ → List ℕ → Seen → Type 0
+Facts limit t (is s) = Laid t s × Within limit s
+Facts limit t (no n) = Unit
+
+facts : (limit : ℕ) (t : List ℕ) → Facts limit t (curveOf limit t)
+unfolding Facts Laid Within curveOf tableOf paraOf
+facts limit t =
+    let P : Seen → Type 0 = Facts limit t in
+    let n : ℕ = u32At t 8 in
+    let type : ℕ = u16At t 8 in
+    each P (ltb (length t) 12) _ _ (λ _. tt)
+    (λ l. each P (eqb (u32At t 0) (signatureOf Curv)) _ _
+    (λ k. each P (eqb n 0) _ _
+    (λ z. (record { signature = eqb-true _ _ k; count = eqb-true n 0 z; whole = ltb-false (length t) 12 l }, tt))
+    (λ z. each P (ltb limit n) _ _ (λ _. tt)
+    (λ w. each P (ltb (length t) (12 + 2 * n)) _ _ (λ _. tt)
+    (λ e. ((let y = eqb-false n 0 z in omega arith, record { signature = eqb-true _ _ k; count = refl; whole = ltb-false (length t) _ e }), ltb-false limit n w)))))
+    (λ _. each P (eqb (u32At t 0) (signatureOf Para)) _ _
+    (λ k. each P (ltb 4 type) _ _ (λ _. tt)
+    (λ m. each P (ltb (length t) (12 + 4 * parameterCount type)) _ _ (λ _. tt)
+    (λ e. each P (divides type && eqb (getD (parameters t) 1 0) 0) _ _ (λ _. tt)
+    (λ d. (record { signature = eqb-true _ _ k; function = refl; known = ltb-false 4 type m; given = refl; whole = ltb-false (length t) _ e }, λ v. eqb-false _ 0 (second-fails (divides type) _ d v))))))
+    (λ _. tt)))
+
+pub laid : (limit : ℕ) (t : List ℕ) (s : Shape) → curveOf limit t ≡ is s → Laid t s × Within limit s
+unfolding Facts
+laid limit t s h = subst (Facts limit t) h (facts limit t)
+
+-- ---- the lone reader
+
+-- a tag that lies in the profile and is not too short for one is answered as its bytes are laid out
+pub lone-accepted : (walk : Walk) (limit : ℕ) (p : List ℕ) (entry size : ℕ) (s : Shape) → entry + 4 ≤ length p → entry + size ≤ length p → leb 1 size && ltb size 12 ≡ false → Laid (tagOf p entry size) s → Within limit s → trcOf walk limit p entry size ≡ value (wordsOf 12 s) (stepOf walk s)
+unfolding trcOf answerOf
+lone-accepted walk limit p entry size s f l m h w =
+    simp (le-ltb (length p) (entry + 4) f, m, le-ltb (length p) (entry + size) l, accepted limit (tagOf p entry size) s h w)

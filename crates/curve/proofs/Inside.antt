@@ -1,0 +1,79 @@
+-- Demand 1 of the tone curve: an accepted curve lies inside its tag, and the tag inside the profile.
+-- Assumes nothing.
+use Prim.Native.Nat.{ℕ, _+_, _*_, _≤_, _<_}
+use native.Mathlib.Omega.{arith}
+use mathlib.Core.Path.{_≡_, refl, sym, _∙_}
+use mathlib.Core.Bool.{Bool, true, false, cond, _&&_}
+use mathlib.Core.List.{List}
+use lib.Dec.{ltb, leb}
+use lib.ListN.{length}
+use borrow.Author.Tests.{ltb-false}
+use Rattle.fields.proofs.Choice.{each}
+use Rattle.curve.specs.Answer.{Answer, value, absent, refused, answerOf}
+use Rattle.curve.specs.Curve.{trcOf, curveOf, tagOf}
+use Rattle.curve.specs.Layout.{parameterCount}
+use Rattle.curve.specs.Shape.{Shape, Seen, is, no, empty, table, para, sizeOf, stepOf, wordsOf}
+use Rattle.curve.specs.Standard.{Laid, Within}
+use Rattle.curve.specs.declared.Walk.{Walk}
+use Rattle.curve.specs.declared.Walk.the-variants.{Crate, Book}
+use Rattle.curve.proofs.Conforms.{laid}
+
+-- ---- one curve
+
+laid-inside : (t : List ℕ) (s : Shape) → Laid t s → sizeOf s ≤ length t
+unfolding Laid sizeOf
+laid-inside t empty h = h .whole
+laid-inside t (table n) (m, h) = h .whole
+laid-inside t (para type ps) h = h .whole
+
+-- the bytes that an accepted curve occupies are there
+pub curve-inside : (limit : ℕ) (t : List ℕ) (s : Shape) → curveOf limit t ≡ is s → sizeOf s ≤ length t
+curve-inside limit t s h = laid-inside t s (laid limit t s h .0)
+
+-- every curve has its first 12 bytes
+pub size-least : (s : Shape) → 12 ≤ sizeOf s
+unfolding sizeOf
+size-least empty = omega arith
+size-least (table n) = omega arith
+size-least (para type ps) = omega arith
+
+-- no walk goes further than the bytes that the curve occupies
+pub step-most : (walk : Walk) (s : Shape) → stepOf walk s ≤ sizeOf s
+unfolding stepOf sizeOf
+step-most Crate empty = omega arith
+step-most Book empty = omega arith
+step-most walk (table n) = omega arith
+step-most walk (para type ps) = omega arith
+
+-- ---- the lone reader
+
+-- what stands behind a value
+pub record Accepted (walk : Walk) (limit : ℕ) (p : List ℕ) (entry size : ℕ) (ws : List ℕ) (consumed : ℕ) : Type 0 where
+  pub shape : Shape
+  pub seen : curveOf limit (tagOf p entry size) ≡ is shape
+  pub record-is : ws ≡ wordsOf 12 shape
+  pub step-is : consumed ≡ stepOf walk shape
+  pub curve-in-tag : sizeOf shape ≤ length (tagOf p entry size)
+  pub tag-in-profile : entry + size ≤ length p
+
+module _ (walk : Walk) (limit : ℕ) (p : List ℕ) (entry size : ℕ) where
+  abbrev Behind : Answer → Type 0
+  Behind (value ws consumed) = Accepted walk limit p entry size ws consumed
+  Behind absent = Unit
+  Behind (refused n) = Unit
+
+  seen-behind : (x : Seen) → curveOf limit (tagOf p entry size) ≡ x → entry + size ≤ length p → Behind (answerOf walk 12 x)
+  unfolding answerOf
+  seen-behind (is s) h l = record { shape = s; seen = h; record-is = refl; step-is = refl; curve-in-tag = curve-inside limit (tagOf p entry size) s h; tag-in-profile = l }
+  seen-behind (no n) h l = tt
+
+  behind : Behind (trcOf walk limit p entry size)
+  unfolding trcOf
+  behind =
+      each Behind (ltb (length p) (entry + 4)) _ _ (λ _. tt)
+      (λ _. each Behind (leb 1 size && ltb size 12) _ _ (λ _. tt)
+      (λ _. each Behind (ltb (length p) (entry + size)) _ _ (λ _. tt)
+      (λ l. seen-behind (curveOf limit (tagOf p entry size)) refl (ltb-false (length p) (entry + size) l))))
+
+  pub accepted-inside : (ws : List ℕ) (consumed : ℕ) → trcOf walk limit p entry size ≡ value ws consumed → Accepted walk limit p entry size ws consumed
+  accepted-inside ws consumed h = rw h at behind

@@ -1,0 +1,40 @@
+-- One call, one answer: a result is determined by the numbers that it stands for, and those by the meaning.
+-- Assumes nothing.
+use mathlib.Core.Path.{_≡_, refl, sym, ap, _∙_}
+use mathlib.Core.List.{List}
+use Prim.Native.Nat.{ℕ}
+use lib.ListN.{getD}
+use Rattle.fields.proofs.Numbers.{nameOf, named}
+use Rattle.curve.specs.Answer.{Answer, value, absent, refused, paper}
+use Rattle.curve.specs.declared.CurveAnswer.{CurveAnswer}
+use Rattle.curve.specs.declared.CurveRecord.{CurveRecord}
+
+-- the result that stands for an answer
+abbrev recordFrom : List ℕ → CurveRecord
+recordFrom ws =
+    record {
+      kind = getD ws 0 0;
+      start = getD ws 1 0;
+      count = getD ws 2 0;
+      g = getD ws 3 0;
+      a = getD ws 4 0;
+      b = getD ws 5 0;
+      c = getD ws 6 0;
+      d = getD ws 7 0;
+      e = getD ws 8 0;
+      f = getD ws 9 0;
+    }
+
+abbrev resultFrom : Answer → CurveAnswer
+resultFrom (value ws consumed) = CurveAnswer.Value (recordFrom ws) consumed
+resultFrom absent = CurveAnswer.Absent
+resultFrom (refused n) = CurveAnswer.Refused (nameOf n)
+
+back : (r : CurveAnswer) → resultFrom (paper r) ≡ r
+back (CurveAnswer.Value curve consumed) = refl
+back CurveAnswer.Absent = refl
+back (CurveAnswer.Refused why) = ap CurveAnswer.Refused (named why)
+
+-- two results that stand for the same answer are one
+pub unique : (a : Answer) (r s : CurveAnswer) → paper r ≡ a → paper s ≡ a → r ≡ s
+unique a r s p q = sym (back r) ∙ ap resultFrom (p ∙ sym q) ∙ back s

@@ -1,0 +1,61 @@
+-- How ICC.1:2022 lays out a tone curve: curveType (10.6) and parametricCurveType (10.18). `t` is the curve's bytes.
+--
+--   curveType                              parametricCurveType
+--    0 to  3  'curv'                        0 to  3  'para'
+--    4 to  7  reserved, 0                   4 to  7  reserved, 0
+--    8 to 11  count of entries              8 to  9  function type
+--   12 on     the entries, 2 bytes each    10 to 11  reserved, 0
+--                                          12 on     the parameters, 4 bytes each
+use Prim.Native.Nat.{ℕ, _+_, _*_, _≤_}
+use mathlib.Core.Path.{_≡_}
+use mathlib.Core.List.{List, [], _∷_}
+use lib.ListN.{length, getD}
+use Rattle.fields.specs.Bytes.{u16At, u32At, wordsAt}
+use Rattle.fields.specs.Tag.{signatureOf}
+use Rattle.fields.specs.declared.Kind.the-variants.{Curv, Para}
+
+-- curveType: how many entries follow, and how far n of them reach
+abbrev pub entryCount : List ℕ → ℕ
+entryCount t = u32At t 8
+
+abbrev pub entriesEnd : ℕ → ℕ
+entriesEnd n = 12 + 2 * n
+
+-- parametricCurveType: the function, how many parameters one of a type has (g; g a b; g a b c; g a b c d; g a b c d e f), and how
+-- far n of them reach
+abbrev pub functionType : List ℕ → ℕ
+functionType t = u16At t 8
+
+abbrev pub row : List ℕ
+row = 1 ∷ 3 ∷ 4 ∷ 5 ∷ 7 ∷ []
+
+unfoldable pub parameterCount : ℕ → ℕ
+parameterCount type = getD row type 0
+
+abbrev pub parametersEnd : ℕ → ℕ
+parametersEnd n = 12 + 4 * n
+
+abbrev pub parameters : List ℕ → List ℕ
+parameters t = wordsAt t 12 (parameterCount (functionType t))
+
+-- the bytes t begin with a curveType of n entries
+pub record CurveType (t : List ℕ) (n : ℕ) : Type 0 where
+  pub signature : u32At t 0 ≡ signatureOf Curv
+  pub count : entryCount t ≡ n
+  pub whole : entriesEnd n ≤ length t
+
+-- the bytes t begin with a parametricCurveType of this function type and these parameters
+pub record ParametricCurveType (t : List ℕ) (type : ℕ) (ps : List ℕ) : Type 0 where
+  pub signature : u32At t 0 ≡ signatureOf Para
+  pub function : functionType t ≡ type
+  pub known : type ≤ 4
+  pub given : parameters t ≡ ps
+  pub whole : parametersEnd (parameterCount type) ≤ length t
+
+-- the reserved bytes, which no reader looks at
+pub record CurveReserved (t : List ℕ) : Type 0 where
+  pub four : u32At t 4 ≡ 0
+
+pub record ParametricReserved (t : List ℕ) : Type 0 where
+  pub four : u32At t 4 ≡ 0
+  pub two : u16At t 10 ≡ 0

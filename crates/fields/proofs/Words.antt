@@ -1,0 +1,25 @@
+-- A row of 32-bit numbers: how many it has, and which stands where.
+-- Assumes nothing.
+use Prim.Native.Nat.{ℕ, zero, suc, _+_, _*_, _≤_, _<_}
+use native.Mathlib.Omega.{arith}
+use mathlib.Core.Path.{_≡_, refl, _∙_, ap}
+use mathlib.Core.List.{List, [], _∷_}
+use lib.ListN.{length, getD, List·getD-eq-default}
+use Rattle.fields.specs.Bytes.{u32At, wordsAt}
+
+module _ (s : List ℕ) where
+  pub words-length : (i n : ℕ) → length (wordsAt s i n) ≡ n
+  unfolding wordsAt
+  words-length i zero = refl
+  words-length i (suc n) = ap suc (words-length (i + 4) n)
+
+  pub word-at : (i n k : ℕ) → k < n → getD (wordsAt s i n) k 0 ≡ u32At s (i + 4 * k)
+  unfolding wordsAt
+  word-at i zero k h = absurd (omega arith)
+  word-at i (suc n) zero h = let e : i ≡ i + 4 * 0 = omega arith in ap (u32At s) e
+  word-at i (suc n) (suc k) h =
+      let e : (i + 4) + 4 * k ≡ i + 4 * suc k = omega arith in
+      word-at (i + 4) n k (omega arith) ∙ ap (u32At s) e
+
+  pub word-past : (i n k : ℕ) → n ≤ k → getD (wordsAt s i n) k 0 ≡ 0
+  word-past i n k h = List·getD-eq-default (wordsAt s i n) 0 (omega (arith, words-length i n))

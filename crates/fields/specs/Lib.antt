@@ -1,0 +1,5 @@
+pub mod Bytes
+pub mod Tag
+pub mod Place
+pub mod Refusals
+pub mod House

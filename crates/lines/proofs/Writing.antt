@@ -1,0 +1,110 @@
+-- Text that is written piece by piece is written whole; and what a loop of stores leaves to write.
+-- Assumes nothing.
+use Prim.Native.Nat.{ℕ, zero, suc, _+_, _-_, _≤_, _<_, min}
+use native.Mathlib.Nat.{add-zero, add-suc, suc-add, min-eq-left, min-eq-right}
+use native.Mathlib.Numerals.{add-one}
+use native.Mathlib.Omega.{arith}
+use mathlib.Core.Path.{_≡_, refl, sym, ap, _∙_}
+use mathlib.Core.List.{List, [], _∷_, _++_}
+use mathlib.Core.Bool.{Bool, true, false}
+use mathlib.Core.Logic.{_⊎_, inl, inr}
+use lib.Dec.{leb}
+use lib.ListN.{length, getD, drop, set, length-append, length-set, drop-of-length-le}
+use lib.Seq.{sets, length-sets, drop-cons}
+use borrow.Author.Tests.{leb-true, leb-false}
+use Rattle.lines.specs.Text.{Wrote}
+
+-- ---- stores past the end
+
+set-past : (l : List ℕ) (i a : ℕ) → length l ≤ i → set l i a ≡ l
+set-past [] i a h = refl
+set-past (x ∷ l) zero a h = absurd (omega arith)
+set-past (x ∷ l) (suc i) a h = ap (λ (k : List ℕ). x ∷ k) (set-past l i a (omega arith))
+
+sets-past : (vs l : List ℕ) (i : ℕ) → length l ≤ i → sets l i vs ≡ l
+sets-past [] l i h = refl
+sets-past (a ∷ vs) l i h = rw (set-past l i a h) (sets-past vs l (suc i) (omega arith))
+
+pub sets-append : (xs ys l : List ℕ) (i : ℕ) → sets l i (xs ++ ys) ≡ sets (sets l i xs) (i + length xs) ys
+sets-append [] ys l i = rw add-zero
+sets-append (x ∷ xs) ys l i = rw (add-suc, ← suc-add) (sets-append xs ys (set l i x) (suc i))
+
+-- ---- one piece behind the other
+
+least : (a b : ℕ) → ((a ≤ b) × (min a b ≡ a)) ⊎ ((b < a) × (min a b ≡ b))
+least a b = by (leb a b) refl
+  where
+    by : (t : Bool) → leb a b ≡ t → ((a ≤ b) × (min a b ≡ a)) ⊎ ((b < a) × (min a b ≡ b))
+    by true e = let h = leb-true a b e in inl (h, min-eq-left h)
+    by false e = let h = leb-false a b e in inr (h, min-eq-right (omega arith))
+
+module _ (l m : List ℕ) (at mid : ℕ) (x y : List ℕ) (w : Wrote l m at mid x) where
+  written-then : sets l at (x ++ y) ≡ sets m mid y
+  written-then =
+      elim (least (length x) (length l - at)) [
+        | inl (h, e) ↦ (let q : mid ≡ at + length x = w .ends ∙ ap (λ (k : ℕ). at + k) e in rw (sets-append x y l at, ← w .written, q))
+        | inr (h, e) ↦ (
+            let q : mid ≡ at + (length l - at) = w .ends ∙ ap (λ (k : ℕ). at + k) e in
+            let s : length m ≡ length l = ap length (w .written) ∙ length-sets l at x in
+            sets-append x y l at ∙ rw (← w .written) (sets-past y m (at + length x) (omega arith) ∙ sym (sets-past y m mid (omega arith))))
+      ]
+
+  ends-then : mid + min (length y) (length m - mid) ≡ at + min (length (x ++ y)) (length l - at)
+  ends-then =
+      let s : length m ≡ length l = ap length (w .written) ∙ length-sets l at x in
+      let a = length-append x y in
+      elim (least (length x) (length l - at)) [
+        | inl (h, e) ↦ elim (least (length y) (length m - mid)) [
+          | inl (g, f) ↦ elim (least (length (x ++ y)) (length l - at)) [ inl (i, j) ↦ omega (arith, w .ends, e, f, j, a, s) | inr (i, j) ↦ omega (arith, w .ends, e, f, j, a, s) ]
+          | inr (g, f) ↦ elim (least (length (x ++ y)) (length l - at)) [ inl (i, j) ↦ omega (arith, w .ends, e, f, j, a, s) | inr (i, j) ↦ omega (arith, w .ends, e, f, j, a, s) ]
+        ]
+        | inr (h, e) ↦ elim (least (length y) (length m - mid)) [
+          | inl (g, f) ↦ elim (least (length (x ++ y)) (length l - at)) [ inl (i, j) ↦ omega (arith, w .ends, e, f, j, a, s) | inr (i, j) ↦ omega (arith, w .ends, e, f, j, a, s) ]
+          | inr (g, f) ↦ elim (least (length (x ++ y)) (length l - at)) [ inl (i, j) ↦ omega (arith, w .ends, e, f, j, a, s) | inr (i, j) ↦ omega (arith, w .ends, e, f, j, a, s) ]
+        ]
+      ]
+
+  -- what is written from the end of a piece on stands behind it
+  pub wrote-then : (n : List ℕ) (end : ℕ) → Wrote m n mid end y → Wrote l n at end (x ++ y)
+  wrote-then n end v = record { written = v .written ∙ sym written-then; ends = v .ends ∙ ends-then }
+
+-- ---- the loop of stores
+
+-- i of the bytes are written; what is left makes of the buffer what all of them make of it
+pub record Writing (l : List ℕ) (at : ℕ) (bytes l' : List ℕ) (end i : ℕ) : Type 0 where
+  pub within : i ≤ length bytes
+  pub same : length l' ≡ length l
+  pub next : end ≡ at + i
+  pub room : i ≤ length l - at
+  pub left : sets l' end (drop i bytes) ≡ sets l at bytes
+
+module _ (l : List ℕ) (at : ℕ) (bytes : List ℕ) where
+  pub begins : Writing l at bytes l at 0
+  begins = record { within = omega arith; same = refl; next = omega arith; room = omega arith; left = refl }
+
+  module _ (l' : List ℕ) (end i : ℕ) (w : Writing l at bytes l' end i) where
+    pub turns : i < length bytes → end < length l' → Writing l at bytes (set l' end (getD bytes i 0)) (end + 1) (i + 1)
+    turns h g =
+        record {
+          within = omega arith;
+          same = length-set l' end (getD bytes i 0) ∙ w .same;
+          next = omega (arith, w .next);
+          room = omega (arith, w .next, w .same);
+          left = simp add-one (rw (drop-cons bytes i 0 h) at (w .left));
+        }
+
+    -- no room is left
+    pub full : length l' ≤ end → Wrote l l' at end bytes
+    full h =
+        record {
+          written = sym (sets-past (drop i bytes) l' end h) ∙ w .left;
+          ends = elim (least (length bytes) (length l - at)) [ inl (g, e) ↦ omega (arith, w .next, w .room, w .same, w .within, e) | inr (g, e) ↦ omega (arith, w .next, w .room, w .same, w .within, e) ];
+        }
+
+    -- nothing is left to write
+    pub done : length bytes ≤ i → Wrote l l' at end bytes
+    done h =
+        record {
+          written = rw (drop-of-length-le bytes {i = i} h) at (w .left);
+          ends = elim (least (length bytes) (length l - at)) [ inl (g, e) ↦ omega (arith, w .next, w .room, w .same, w .within, e) | inr (g, e) ↦ omega (arith, w .next, w .room, w .same, w .within, e) ];
+        }

@@ -1,0 +1,33 @@
+-- Text, as a list of ASCII codes, and what it means to have written it.
+use Prim.Native.Nat.{ℕ, zero, suc, _+_, _-_, _/_, _%_, min}
+use mathlib.Core.Path.{_≡_}
+use mathlib.Core.Bool.{cond}
+use mathlib.Core.List.{List, [], _∷_, _++_}
+use lib.Dec.{ltb}
+use lib.IntN.{ℤ, pos, negsuc}
+use lib.ListN.{length}
+use lib.Seq.{sets}
+
+-- a number in decimal, of at most so many digits
+unfoldable pub digitsOf : ℕ → ℕ → List ℕ
+digitsOf zero n = []
+digitsOf (suc most) n = cond (ltb n 10) ((48 + n) ∷ []) (digitsOf most (n / 10) ++ ((48 + n % 10) ∷ []))
+
+-- a 64-bit number has at most twenty digits
+unfoldable pub decimal : ℕ → List ℕ
+decimal n = digitsOf 20 n
+
+-- a byte, and a number behind it
+unfoldable pub number : ℕ → ℕ → List ℕ
+number before n = before ∷ decimal n
+
+-- a byte, and a signed number behind it: below 0 it has a minus
+unfoldable pub numeral : ℕ → ℤ → List ℕ
+numeral before (pos n) = number before n
+numeral before (negsuc n) = before ∷ number 45 (n + 1)
+
+-- the text stands in the buffer from `at` on, as far as there is room; the rest of the buffer stays; `end` is where the written
+-- part ends
+pub record Wrote (before after : List ℕ) (at end : ℕ) (text : List ℕ) : Type 0 where
+  pub written : after ≡ sets before at text
+  pub ends : end ≡ at + min (length text) (length before - at)

@@ -1,0 +1,43 @@
+// Lines of text in a lent buffer: bytes, and numbers in decimal. What has no room is not written, as with C's snprintf.
+ghost use Rattle.fields.specs.Bytes.{signed};
+ghost use Rattle.lines.specs.Text.{Wrote, number, numeral};
+
+// Writes `bytes` from `at` on, and answers where they end.
+pub fn put(out: &mut [u8], at: usize, bytes: &[u8]) -> usize
+    ensures { λ r. ⌜ Wrote (now (out .entry)) (now (out .exit)) at r (now (bytes .entry)) ⌝ }
+{
+    let mut end = at;
+    let mut i = 0;
+    while i < bytes.len() {
+        if out.len() <= end {
+            return end;
+        }
+        out[end] = bytes[i];
+        end += 1;
+        i += 1;
+    }
+    end
+}
+
+// Writes a byte and then n in decimal.
+pub fn put_number(out: &mut [u8], at: usize, before: u8, n: u64) -> usize
+    ensures { λ r. ⌜ Wrote (now (out .entry)) (now (out .exit)) at r (number before n) ⌝ }
+{
+    let first = [before];
+    let next = put(out, at, &first);
+    let mut digits = [0u8; 20];
+    let k = io::decimal(n, &mut digits);
+    put(out, next, &digits[..k])
+}
+
+// Writes a byte and then, in decimal, the signed number that the word is in two's complement.
+pub fn put_signed(out: &mut [u8], at: usize, before: u8, word: u32) -> usize
+    ensures { λ r. ⌜ Wrote (now (out .entry)) (now (out .exit)) at r (numeral before (signed word)) ⌝ }
+{
+    if word < 0x8000_0000 {
+        return put_number(out, at, before, word as u64);
+    }
+    let first = [before];
+    let next = put(out, at, &first);
+    put_number(out, next, b'-', 0x1_0000_0000 - word as u64)
+}

@@ -1,0 +1,1 @@
+"""The comparison of Khalyksor's readers with moxcms's: see ../README.md."""

@@ -1,0 +1,34 @@
+"""The tags of real profiles."""
+
+import struct
+import sys
+from collections.abc import Iterator
+from pathlib import Path
+
+from compare.jobs import LONGEST_PROFILE
+
+TAG_COUNT_AT = 128
+TAG_TABLE_AT = 132
+ENTRY = struct.Struct(">4sII")  # signature, offset, size
+
+
+def profiles(folder: Path) -> Iterator[bytes]:
+    """The .icc and .icm files of a folder and the folders in it, but for those too long for a job."""
+    for path in sorted(folder.rglob("*")):
+        if path.suffix.lower() not in (".icc", ".icm"):
+            continue
+        if path.stat().st_size > LONGEST_PROFILE:
+            print(f"skipped {path}: longer than {LONGEST_PROFILE} bytes", file=sys.stderr)
+            continue
+        yield path.read_bytes()
+
+
+def tags(profile: bytes) -> Iterator[tuple[int, int]]:
+    """Offset and size of each entry of the tag table, as far as the table lies in the profile."""
+    if len(profile) < TAG_TABLE_AT:
+        return
+    (count,) = struct.unpack_from(">I", profile, TAG_COUNT_AT)
+    room = (len(profile) - TAG_TABLE_AT) // ENTRY.size
+    for number in range(min(count, room)):
+        _signature, offset, size = ENTRY.unpack_from(profile, TAG_TABLE_AT + ENTRY.size * number)
+        yield offset, size

@@ -1,0 +1,17 @@
+"""The families of readers that are compared, a module each. A module offers
+
+READERS                        the reader numbers of its jobs
+KINDS                          the kinds of answer; `generate` must reach each of them with each reader
+kind(line)                     the kind of one of our lines, or "other"
+expected(job, line)            the line that the oracle prints if `line`, our answer to `job`, is right
+oracle_job(job)                the job to put to the oracle for `job`
+generate(rng)                  a random job
+exhaustive()                   every job of some small set
+stored()                       the hand-picked cases: pairs of a comment and a job
+from_tag(profile, start, size) the jobs to make of a real profile's tag; none if its type is not this family's
+"""
+
+from compare import curve
+
+FAMILIES = {"curve": curve}
+FAMILY_OF_READER = {reader: family for family in FAMILIES.values() for reader in family.READERS}
