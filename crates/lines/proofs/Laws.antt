@@ -3,20 +3,23 @@
 use Prim.Native.Nat.{ℕ, _+_, _-_, _^_, _≤_, _<_}
 use native.Mathlib.Omega.{arith}
 use mathlib.Core.Path.{_≡_, refl, sym, ap, _∙_}
-use mathlib.Core.List.{List, [], _∷_, _++_}
+use mathlib.Core.List.{List, [], _∷_, _++_, append-assoc, append-nil}
+use native.Mathlib.Numerals.{add-one}
+use lib.ListN.{length, getD, take}
+use lib.Seq.{take-suc, take-all}
 use lib.IntN.{ℤ, pos, negsuc}
 use borrow.Author.Tests.{lt-ltb, le-ltb}
 use Rattle.io.specs.Digits.{digits, Fewest}
 use Rattle.fields.specs.Bytes.{signed}
-use Rattle.lines.specs.Text.{Wrote, decimal, number, numeral}
-use Rattle.lines.proofs.Writing.{wrote-then}
+use Rattle.lines.specs.Text.{Wrote, decimal, number, numeral, numerals}
+use Rattle.lines.proofs.Writing.{joined, nothing}
 use Rattle.lines.proofs.Digits.{is-decimal}
 
 -- a byte, and the digits behind it
 pub number-wrote : (n k : ℕ) {l m o ds : List ℕ} {at mid end before : ℕ} → Wrote l m at mid (before ∷ []) → n < 2 ^ 64 → Fewest 10 1 n k → ds ≡ digits 10 k n → Wrote m o mid end ds → Wrote l o at end (number before n)
 unfolding number
 number-wrote n k {l} {m} {o} {ds} {at} {mid} {end} {before} w h f e v =
-    rw (← is-decimal k n h f, ← e) (wrote-then l m at mid (before ∷ []) ds w o end v)
+    rw (← is-decimal k n h f, ← e) (joined w v)
 
 -- a word below half is its own number
 pub below-half : (l o : List ℕ) (at end before w : ℕ) → w < 2 ^ 31 → Wrote l o at end (number before w) → Wrote l o at end (numeral before (signed w))
@@ -28,4 +31,26 @@ pub from-half : (l m o : List ℕ) (at mid end before w : ℕ) → 2 ^ 31 ≤ w 
 unfolding numeral
 from-half l m o at mid end before w h g v u =
     let e : 2 ^ 32 - 1 - w + 1 ≡ 2 ^ 32 - w = omega arith in
-    rw (le-ltb w (2 ^ 31) h, e) (wrote-then l m at mid (before ∷ []) (number 45 (2 ^ 32 - w)) v o end u)
+    rw (le-ltb w (2 ^ 31) h, e) (joined v u)
+
+-- ---- a row of words
+
+numerals-append : (xs ys : List ℕ) → numerals (xs ++ ys) ≡ numerals xs ++ numerals ys
+unfolding numerals
+numerals-append [] ys = refl
+numerals-append (x ∷ xs) ys = rw (numerals-append xs ys) (sym (append-assoc (numeral 32 (signed x)) (numerals xs) (numerals ys)))
+
+one-more : (ws : List ℕ) (i : ℕ) → i < length ws → numerals (take (i + 1) ws) ≡ numerals (take i ws) ++ numeral 32 (signed (getD ws i 0))
+unfolding numerals
+one-more ws i h =
+    rw (add-one, take-suc ws i 0 h) (numerals-append (take i ws) (getD ws i 0 ∷ []) ∙ ap (λ (y : List ℕ). numerals (take i ws) ++ y) (append-nil (numeral 32 (signed (getD ws i 0)))))
+
+pub words-begin : (l ws : List ℕ) (at : ℕ) → Wrote l l at at (numerals (take 0 ws))
+unfolding numerals
+words-begin l ws at = nothing l at
+
+pub words-turn : (l m n ws : List ℕ) (at mid end i : ℕ) → i < length ws → Wrote l m at mid (numerals (take i ws)) → Wrote m n mid end (numeral 32 (signed (getD ws i 0))) → Wrote l n at end (numerals (take (i + 1) ws))
+words-turn l m n ws at mid end i h w v = rw (one-more ws i h) (joined w v)
+
+pub words-end : (l m ws : List ℕ) (at end i : ℕ) → length ws ≤ i → Wrote l m at end (numerals (take i ws)) → Wrote l m at end (numerals ws)
+words-end l m ws at end i h w = rw (take-all i ws h) at w

@@ -1,7 +1,7 @@
 -- Text that is written piece by piece is written whole; and what a loop of stores leaves to write.
 -- Assumes nothing.
 use Prim.Native.Nat.{ℕ, zero, suc, _+_, _-_, _≤_, _<_, min}
-use native.Mathlib.Nat.{add-zero, add-suc, suc-add, min-eq-left, min-eq-right}
+use native.Mathlib.Nat.{add-zero, add-suc, suc-add, min-eq-left, min-eq-right, min-le-left}
 use native.Mathlib.Numerals.{add-one}
 use native.Mathlib.Omega.{arith}
 use mathlib.Core.Path.{_≡_, refl, sym, ap, _∙_}
@@ -31,6 +31,10 @@ sets-append (x ∷ xs) ys l i = rw (add-suc, ← suc-add) (sets-append xs ys (se
 
 -- ---- one piece behind the other
 
+-- a buffer keeps its length
+pub wrote-length : {l m x : List ℕ} {at end : ℕ} → Wrote l m at end x → length m ≡ length l
+wrote-length {l} {m} {x} {at} {end} w = ap length (w .written) ∙ length-sets l at x
+
 least : (a b : ℕ) → ((a ≤ b) × (min a b ≡ a)) ⊎ ((b < a) × (min a b ≡ b))
 least a b = by (leb a b) refl
   where
@@ -45,13 +49,13 @@ module _ (l m : List ℕ) (at mid : ℕ) (x y : List ℕ) (w : Wrote l m at mid 
         | inl (h, e) ↦ (let q : mid ≡ at + length x = w .ends ∙ ap (λ (k : ℕ). at + k) e in rw (sets-append x y l at, ← w .written, q))
         | inr (h, e) ↦ (
             let q : mid ≡ at + (length l - at) = w .ends ∙ ap (λ (k : ℕ). at + k) e in
-            let s : length m ≡ length l = ap length (w .written) ∙ length-sets l at x in
+            let s : length m ≡ length l = wrote-length w in
             sets-append x y l at ∙ rw (← w .written) (sets-past y m (at + length x) (omega arith) ∙ sym (sets-past y m mid (omega arith))))
       ]
 
   ends-then : mid + min (length y) (length m - mid) ≡ at + min (length (x ++ y)) (length l - at)
   ends-then =
-      let s : length m ≡ length l = ap length (w .written) ∙ length-sets l at x in
+      let s : length m ≡ length l = wrote-length w in
       let a = length-append x y in
       elim (least (length x) (length l - at)) [
         | inl (h, e) ↦ elim (least (length y) (length m - mid)) [
@@ -64,9 +68,14 @@ module _ (l m : List ℕ) (at mid : ℕ) (x y : List ℕ) (w : Wrote l m at mid 
         ]
       ]
 
-  -- what is written from the end of a piece on stands behind it
-  pub wrote-then : (n : List ℕ) (end : ℕ) → Wrote m n mid end y → Wrote l n at end (x ++ y)
-  wrote-then n end v = record { written = v .written ∙ sym written-then; ends = v .ends ∙ ends-then }
+-- what is written from the end of a piece on stands behind it
+pub joined : {l m n x y : List ℕ} {at mid end : ℕ} → Wrote l m at mid x → Wrote m n mid end y → Wrote l n at end (x ++ y)
+joined {l} {m} {n} {x} {y} {at} {mid} {end} w v =
+    record { written = v .written ∙ sym (written-then l m at mid x y w); ends = v .ends ∙ ends-then l m at mid x y w }
+
+-- nothing is written at once
+pub nothing : (l : List ℕ) (at : ℕ) → Wrote l l at at []
+nothing l at = record { written = refl; ends = omega (arith, min-le-left 0 (length l - at)) }
 
 -- ---- the loop of stores
 

@@ -7,6 +7,7 @@ use lib.Dec.{ltb}
 use lib.IntN.{ℤ, pos, negsuc}
 use lib.ListN.{length}
 use lib.Seq.{sets}
+use Rattle.fields.specs.Bytes.{signed}
 
 -- a number in decimal, of at most so many digits
 unfoldable pub digitsOf : ℕ → ℕ → List ℕ
@@ -25,6 +26,11 @@ number before n = before ∷ decimal n
 unfoldable pub numeral : ℕ → ℤ → List ℕ
 numeral before (pos n) = number before n
 numeral before (negsuc n) = before ∷ number 45 (n + 1)
+
+-- words as signed numbers, each behind a space
+unfoldable pub numerals : List ℕ → List ℕ
+numerals [] = []
+numerals (w ∷ ws) = numeral 32 (signed w) ++ numerals ws
 
 -- the text stands in the buffer from `at` on, as far as there is room; the rest of the buffer stays; `end` is where the written
 -- part ends

@@ -1,6 +1,6 @@
 // Lines of text in a lent buffer: bytes, and numbers in decimal. What has no room is not written, as with C's snprintf.
 ghost use Rattle.fields.specs.Bytes.{signed};
-ghost use Rattle.lines.specs.Text.{Wrote, number, numeral};
+ghost use Rattle.lines.specs.Text.{Wrote, number, numeral, numerals};
 
 // Writes `bytes` from `at` on, and answers where they end.
 pub fn put(out: &mut [u8], at: usize, bytes: &[u8]) -> usize
@@ -40,4 +40,17 @@ pub fn put_signed(out: &mut [u8], at: usize, before: u8, word: u32) -> usize
     let first = [before];
     let next = put(out, at, &first);
     put_number(out, next, b'-', 0x1_0000_0000 - word as u64)
+}
+
+// Writes each of the words as a signed number behind a space.
+pub fn put_words(out: &mut [u8], at: usize, words: &[u32]) -> usize
+    ensures { λ r. ⌜ Wrote (now (out .entry)) (now (out .exit)) at r (numerals (now (words .entry))) ⌝ }
+{
+    let mut end = at;
+    let mut i = 0;
+    while i < words.len() {
+        end = put_signed(out, end, b' ', words[i]);
+        i += 1;
+    }
+    end
 }

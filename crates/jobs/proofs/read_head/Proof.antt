@@ -1,0 +1,22 @@
+-- `jobs::read_head` meets its contract: each way out is a law of `headOf`.
+-- Assumes nothing.
+use Rattle.jobs.proofs.Laws.{head-laws, head-job}
+use borrow.Author.Needs.{needs}
+use Rattle.jobs.proofs.read_head.Statement.{statement}
+use Rattle.jobs.proofs.read_head.Tie as tie
+
+pub read-head-spec : {M : Type 1} → statement M
+read-head-spec =
+    tie.close
+    (tie.spec
+    (λ c. search (needs, head-laws))
+    (λ c κs. search needs)
+    (λ c. search (needs, head-laws))
+    (λ c κs. search needs)
+    (λ c. search (needs, head-laws))
+    (λ c κs. search needs)
+    (λ c κs. search needs)
+    (λ c κs. search needs)
+    (λ c κs. search needs)
+    (λ c κs. search needs)
+    (λ c. head-job _ (search needs) _ (c .before .before .before .before .before .before .before .before .u32-at .ensures) (search needs) _ (c .before .before .before .before .before .before .u32-at2 .ensures) _ (search needs) (cc)))

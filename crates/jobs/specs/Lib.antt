@@ -1,0 +1,2 @@
+pub mod CurveLine
+pub mod Stream
