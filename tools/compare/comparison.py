@@ -1,5 +1,6 @@
 """Puts the same jobs to `answers` and to the oracle, and holds their lines against each other."""
 
+import shlex
 import subprocess
 from collections import Counter
 from collections.abc import Iterable, Iterator
@@ -38,7 +39,7 @@ def ask(command: list[str], jobs: list[bytes]) -> list[str]:
     """A program's lines, one for each of the encoded jobs."""
     done = subprocess.run(command, input=b"".join(jobs), stdout=subprocess.PIPE)
     *lines, rest = done.stdout.decode("ascii", "backslashreplace").split("\n")
-    counts = f"{command[0]}: {len(lines)} lines for {len(jobs)} jobs, exit status {done.returncode}"
+    counts = f"{shlex.join(command)}: {len(lines)} lines for {len(jobs)} jobs, exit status {done.returncode}"
     if len(lines) < len(jobs):
         raise Failed(f"{counts}; the first job without a line: {jobs[len(lines)].hex()}")
     if len(lines) > len(jobs) or rest or done.returncode != 0:

@@ -11,7 +11,7 @@ from collections.abc import Iterator
 from dataclasses import replace
 from random import Random
 
-from compare.jobs import HOUSE_CURVE_LIMIT, MOST_WORDS, NO_LIMIT, Job
+from compare.jobs import HOUSE_CURVE_LIMIT, LONGEST_PROFILE, MOST_WORDS, NO_LIMIT, Job
 
 CRATE_WALK, BOOK_WALK = 2, 12
 READERS = (CRATE_WALK, BOOK_WALK)
@@ -99,8 +99,8 @@ def _unseen_fault(job: Job, record_kind: int, start: int, count: int, parameters
     if any(parameters[used:]):
         return "an unused parameter is not 0"
     data = job.profile[job.offset + HEAD : job.offset + HEAD + 4 * used]
-    if len(data) == 4 * used and parameters[:used] != list(struct.unpack(f">{used}i", data)):
-        return "a parameter is not the number in the profile"
+    if len(data) < 4 * used or parameters[:used] != list(struct.unpack(f">{used}i", data)):
+        return "the parameters are not the numbers in the profile"
     return ""
 
 
@@ -132,12 +132,12 @@ def ramp(count: int) -> bytes:
 
 SMALL_COUNTS = range(3, 10)
 LARGE_COUNTS = range(100, 600)
-# Twice such a count, and 12 more, passes or just reaches 2^32
+# More than any short tag holds, and of some of them 12 + 2 * count is small in its low 32 bits
 HUGE_COUNTS = (2**16, 2**31 - 7, 2**31 - 6, 2**31 - 5, 2**31 - 1, 2**31, 2**31 + 1, 2**31 + 2, LAST_U32 - 1, LAST_U32)
 NEAR_SIGNATURES = (
     b"curV", b"Curv", b"cur\0", b"vruc", b"cusv", b"parA", b"Para", b"par ", b"arap", b"parb", b"pacv", b"cura",
     b"sf32", b"XYZ ", b"mft2", b"mAB ", bytes(4), b"\xff" * 4,
-)  # fmt: skip
+)
 UNKNOWN_FUNCTIONS = (5, 6, 255, 256, 257, 1024, 65535)
 FRONT_LENGTHS = (0, 0, 0, 0, 1, 2, 3, 4, 5, 7, 13, 128, 201)
 BEHIND_LENGTHS = (0, 0, 0, 0, 1, 2, 3, 4, 40)
@@ -201,6 +201,7 @@ def _para(rng: Random) -> bytes:
 def _parameter(rng: Random) -> int:
     return rng.choice((
         0,
+        rng.choice((-1, 1)),
         rng.randrange(-(2**31), 2**31),
         rng.randrange(-300, 300),
         rng.randrange(-8, 8) * 65536 + rng.randrange(-1, 2),
@@ -215,7 +216,8 @@ def _reserved(rng: Random, length: int) -> bytes:
 
 
 def _damaged(rng: Random, element: bytes) -> bytes:
-    cut = rng.choice((1, 2, 3, rng.randrange(len(element) + 1)))
+    """Cut short, or with one byte of its head changed."""
+    cut = rng.choice((1, 2, 3, rng.randrange(1, len(element) + 1)))
     at = rng.randrange(HEAD)
     return rng.choice((element[:-cut], element[:at] + rng.randbytes(1) + element[at + 1 :]))
 
@@ -267,7 +269,7 @@ def _limit(rng: Random, count: int) -> int:
         return HOUSE_CURVE_LIMIT
     if choice < 0.6:
         return NO_LIMIT
-    # the last ones are large, but small in their low 32 bits
+    # the last two are large, but small in their low 32 bits
     limits = (0, 1, count - 1, count, count + 1, 4096, 4097, LAST_U32, 2**63, 2**32, 2**32 + count - 1)
     return max(0, rng.choice(limits))
 
@@ -288,7 +290,10 @@ BASES = (
 
 
 def exhaustive() -> Iterator[Job]:
-    """Offsets and sizes, ends of the profile, signatures and function types around a few small curves."""
+    """Offsets, sizes and ends of the profile around a few small curves; heads a byte away; function types; and the
+    largest table that a job can hold.
+    """
+    largest = (LONGEST_PROFILE - HEAD) // 2
     for reader in READERS:
         for base in BASES:
             for front in (0, 3):
@@ -307,6 +312,8 @@ def exhaustive() -> Iterator[Job]:
                     yield Job(reader, 0, len(base), profile, NO_LIMIT)
         for function in range(1024):
             yield Job(reader, 0, 40, para(function, *range(1, 8)))
+        for count in (largest, largest + 1):
+            yield Job(reader, 0, LONGEST_PROFILE, curv(count, ramp(2) * (largest // 2)), NO_LIMIT)
 
 
 # Real profiles
@@ -335,7 +342,7 @@ def stored() -> list[tuple[str, Job]]:
     ]
 
 
-def _job(profile: bytes, offset: int = 0, size: int | None = None, limit: int = HOUSE_CURVE_LIMIT, words: int = 0) -> Job:
+def _job(profile: bytes, offset=0, size=None, limit=HOUSE_CURVE_LIMIT, words=0) -> Job:
     """By default the whole profile is the tag."""
     return Job(CRATE_WALK, offset, len(profile) if size is None else size, profile, limit, words=words)
 
@@ -412,7 +419,7 @@ def _cases() -> Iterator[tuple[str, Job]]:
     for function in (5, 6, 255, 256, 257, 65535):
         yield f"para type {function} without parameters", _job(para(function))
     yield "para, extreme parameters", _job(para(4, -(2**31), 2**31 - 1, 2**24 + 1, -(2**24) - 1, 2**30 + 1, 1, -1))
-    yield "para, no limit to pass", _job(gamma, limit=0)
+    yield "para, limit 0", _job(gamma, limit=0)
     yield "para with reserved bytes set", _job(para(0, 144179, reserved=b"\xde\xad\xbe\xef", behind=b"\xff\xff"))
 
     for signature in (b"curV", b"Curv", b"parA", b"par ", b"vruc", b"sf32", bytes(4), b"\xff" * 4):

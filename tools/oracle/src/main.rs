@@ -4,7 +4,7 @@
 //!
 //! A job, big-endian: reader u8, offset u32, size u32, limit of curve entries u64, limit of grid points u64,
 //! words lent u32 (unread here), length of the profile u32, the profile. Reader 13 has 18 bytes more.
-//! Readers 11 and up are not moxcms's: `no oracle`. A reader that panics is answered `panic` and where.
+//! Readers 11 and up are not moxcms's: `no oracle`. A reader that panics is answered `panicked at` and where.
 //!
 //! The modules named in the first list are moxcms's files, put beside this one by ../build.
 #![allow(dead_code, unused_imports, unused_macros, unreachable_pub)]
@@ -76,7 +76,7 @@ fn main() -> io::Result<()> {
             max_allowed_clut_size: limit(17),
         };
         let line = panic::catch_unwind(|| answer::line(header[0], &profile, number(1), number(5), &options))
-            .unwrap_or_else(|_| format!("panic {}", LAST_PANIC.take()));
+            .unwrap_or_else(|_| LAST_PANIC.take());
         writeln!(output, "{line}")?;
     }
     output.flush()

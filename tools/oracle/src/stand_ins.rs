@@ -100,7 +100,13 @@ pub fn f_pow(_: f64, _: f64) -> f64 { unimplemented!() }
 
 // num-traits
 pub trait Num:
-    PartialEq + Sized + Add<Output = Self> + Sub<Output = Self> + Mul<Output = Self> + Div<Output = Self> + Rem<Output = Self>
+    Sized
+    + PartialEq
+    + Add<Output = Self>
+    + Sub<Output = Self>
+    + Mul<Output = Self>
+    + Div<Output = Self>
+    + Rem<Output = Self>
 {
 }
 
