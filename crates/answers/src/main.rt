@@ -1,70 +1,46 @@
 // `answers`: reads jobs from standard input until it ends, calls the reader that each names, and writes a line for each. By it the
 // readers are compared with the Rust's. A job that is cut short, names no reader or passes a bound ends the program.
-use curve::CurveAnswer;
+mod curves;
+mod tables;
+mod told;
+
 use curve::Walk;
-use fields::Entry;
-use fields::Refusal;
 use jobs::StreamHead;
 use jobs::StreamJob;
 
-fn write_line(line: &[u8], end: usize) {
-    if end <= line.len() {
-        io::write_all(1, &line[..end]);
-    }
-}
-
-fn write_refused(why: Refusal) {
-    let mut line = [0u8; 64];
-    let word = lines::put(&mut line, 0, b"refused");
-    let number = lines::put_number(&mut line, word, b' ', why.number() as u64);
-    let end = lines::put(&mut line, number, b"\n");
-    write_line(&line, end);
-}
-
-// Readers 2 and 12.
-fn answer_curve(profile: &[u8], job: StreamJob, walk: Walk) {
-    match curve::read_trc_tag(profile, Entry(job.offset), job.size, job.entries, walk) {
-        CurveAnswer::Value { curve, consumed } => {
-            let mut line = [0u8; 256];
-            let word = lines::put(&mut line, 0, b"value");
-            let record = jobs::put_record(&mut line, word, b' ', curve);
-            let size = lines::put_number(&mut line, record, b' ', consumed);
-            let end = lines::put(&mut line, size, b"\n");
-            write_line(&line, end);
-        }
-        CurveAnswer::Absent => {
-            io::write_all(1, b"absent\n");
-        }
-        CurveAnswer::Refused(why) => write_refused(why),
-    }
-}
-
-// Answers a job whose profile is read, and says whether its reader is known.
-fn answer_job(profile: &[u8], job: StreamJob) -> bool {
+// Puts the line of a job whose profile is read at the start of `line`, and answers where it ends: at 0 if no reader has the number.
+fn answer_job(profile: &[u8], job: StreamJob, words: &mut [u32], line: &mut [u8]) -> usize {
     let reader = job.reader;
     match reader {
-        2 => {
-            answer_curve(profile, job, Walk::Crate);
-            true
-        }
-        12 => {
-            answer_curve(profile, job, Walk::Book);
-            true
-        }
-        _ => false,
+        1 => tables::answer(profile, job, Walk::Crate, words, line),
+        2 => curves::answer(profile, job, Walk::Crate, line),
+        11 => tables::answer(profile, job, Walk::Book, words, line),
+        12 => curves::answer(profile, job, Walk::Book, line),
+        _ => 0,
     }
 }
 
 // Reads the rest of a job and answers it, and says whether it was a good one.
-fn run_job(job: StreamJob, profile: &mut [u8]) -> bool {
+fn run_job(job: StreamJob, profile: &mut [u8], words: &mut [u32], line: &mut [u8]) -> bool {
     let length = job.length as usize;
+    let lent = job.words as usize;
     if profile.len() < length {
+        return false;
+    }
+    if words.len() < lent {
         return false;
     }
     if io::read_full(0, &mut profile[..length]) < length {
         return false;
     }
-    answer_job(&profile[..length], job)
+    let end = answer_job(&profile[..length], job, &mut words[..lent], line);
+    if end == 0 {
+        return false;
+    }
+    if line.len() < end {
+        return false;
+    }
+    io::write_all(1, &line[..end])
 }
 
 // Says that there is no going on.
@@ -74,7 +50,11 @@ fn bad_job() -> bool {
 }
 
 // Runs the next job, and says whether to go on.
-fn run_next(profile: &mut [u8; 1_048_576]) -> bool {
+fn run_next(
+    profile: &mut [u8; 1_048_576],
+    words: &mut [u32; 8_192],
+    line: &mut [u8; 98_304],
+) -> bool {
     let mut head = [0u8; 33];
     let n = io::read_full(0, &mut head);
     if n == 0 {
@@ -84,7 +64,7 @@ fn run_next(profile: &mut [u8; 1_048_576]) -> bool {
     let StreamHead::Job(job) = got else {
         return bad_job();
     };
-    if run_job(job, profile) {
+    if run_job(job, profile, words, line) {
         return true;
     }
     bad_job()
@@ -92,9 +72,11 @@ fn run_next(profile: &mut [u8; 1_048_576]) -> bool {
 
 fn main() {
     let mut profile = [0u8; 1_048_576];
+    let mut words = [0u32; 8_192];
+    let mut line = [0u8; 98_304];
     let mut left: u64 = 0xFFFF_FFFF_FFFF_FFFF;
     while left > 0 {
-        if run_next(&mut profile) {
+        if run_next(&mut profile, &mut words, &mut line) {
             left -= 1;
         } else {
             return;

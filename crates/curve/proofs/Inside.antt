@@ -45,6 +45,13 @@ step-most Book empty = omega arith
 step-most walk (table n) = omega arith
 step-most walk (para type ps) = omega arith
 
+-- the book walk goes as far
+pub book-step : (s : Shape) → stepOf Book s ≡ sizeOf s
+unfolding stepOf sizeOf
+book-step empty = refl
+book-step (table n) = refl
+book-step (para type ps) = refl
+
 -- ---- the lone reader
 
 -- what stands behind a value

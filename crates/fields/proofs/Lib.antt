@@ -5,3 +5,4 @@ pub mod Grow
 pub mod Signatures
 pub mod Located
 pub mod Numbers
+pub mod Stores

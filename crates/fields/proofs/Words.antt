@@ -1,11 +1,11 @@
--- A row of 32-bit numbers: how many it has, and which stands where.
+-- A row of bytes or of 32-bit numbers: how many it has, and which stands where.
 -- Assumes nothing.
 use Prim.Native.Nat.{ℕ, zero, suc, _+_, _*_, _≤_, _<_}
 use native.Mathlib.Omega.{arith}
 use mathlib.Core.Path.{_≡_, refl, _∙_, ap}
 use mathlib.Core.List.{List, [], _∷_}
 use lib.ListN.{length, getD, List·getD-eq-default}
-use Rattle.fields.specs.Bytes.{u32At, wordsAt}
+use Rattle.fields.specs.Bytes.{u32At, bytesAt, wordsAt}
 
 module _ (s : List ℕ) where
   pub words-length : (i n : ℕ) → length (wordsAt s i n) ≡ n
@@ -23,3 +23,16 @@ module _ (s : List ℕ) where
 
   pub word-past : (i n k : ℕ) → n ≤ k → getD (wordsAt s i n) k 0 ≡ 0
   word-past i n k h = List·getD-eq-default (wordsAt s i n) 0 (omega (arith, words-length i n))
+
+  pub bytes-length : (i n : ℕ) → length (bytesAt s i n) ≡ n
+  unfolding bytesAt
+  bytes-length i zero = refl
+  bytes-length i (suc n) = ap suc (bytes-length (i + 1) n)
+
+  pub byte-at : (i n k : ℕ) → k < n → getD (bytesAt s i n) k 0 ≡ getD s (i + k) 0
+  unfolding bytesAt
+  byte-at i zero k h = absurd (omega arith)
+  byte-at i (suc n) zero h = let e : i ≡ i + 0 = omega arith in ap (λ (j : ℕ). getD s j 0) e
+  byte-at i (suc n) (suc k) h =
+      let e : (i + 1) + k ≡ i + suc k = omega arith in
+      byte-at (i + 1) n k (omega arith) ∙ ap (λ (j : ℕ). getD s j 0) e

@@ -18,7 +18,11 @@ u16At s i = getD s i 0 * 256 + getD s (i + 1) 0
 abbrev pub u32At : List ℕ → ℕ → ℕ
 u32At s i = number (getD s i 0) (getD s (i + 1) 0) (getD s (i + 2) 0) (getD s (i + 3) 0)
 
--- n numbers of 32 bits, one behind the other
+-- n bytes, and n numbers of 32 bits, one behind the other
+unfoldable pub bytesAt : List ℕ → ℕ → ℕ → List ℕ
+bytesAt s i zero = []
+bytesAt s i (suc n) = getD s i 0 ∷ bytesAt s (i + 1) n
+
 unfoldable pub wordsAt : List ℕ → ℕ → ℕ → List ℕ
 wordsAt s i zero = []
 wordsAt s i (suc n) = u32At s i ∷ wordsAt s (i + 4) n

@@ -1,7 +1,7 @@
 -- Text that is written piece by piece is written whole; and what a loop of stores leaves to write.
 -- Assumes nothing.
 use Prim.Native.Nat.{ℕ, zero, suc, _+_, _-_, _≤_, _<_, min}
-use native.Mathlib.Nat.{add-zero, add-suc, suc-add, min-eq-left, min-eq-right, min-le-left}
+use native.Mathlib.Nat.{min-eq-left, min-eq-right, min-le-left}
 use native.Mathlib.Numerals.{add-one}
 use native.Mathlib.Omega.{arith}
 use mathlib.Core.Path.{_≡_, refl, sym, ap, _∙_}
@@ -12,6 +12,7 @@ use lib.Dec.{leb}
 use lib.ListN.{length, getD, drop, set, length-append, length-set, drop-of-length-le}
 use lib.Seq.{sets, length-sets, drop-cons}
 use borrow.Author.Tests.{leb-true, leb-false}
+use Rattle.fields.proofs.Stores.{sets-append}
 use Rattle.lines.specs.Text.{Wrote}
 
 -- ---- stores past the end
@@ -24,10 +25,6 @@ set-past (x ∷ l) (suc i) a h = ap (λ (k : List ℕ). x ∷ k) (set-past l i a
 sets-past : (vs l : List ℕ) (i : ℕ) → length l ≤ i → sets l i vs ≡ l
 sets-past [] l i h = refl
 sets-past (a ∷ vs) l i h = rw (set-past l i a h) (sets-past vs l (suc i) (omega arith))
-
-pub sets-append : (xs ys l : List ℕ) (i : ℕ) → sets l i (xs ++ ys) ≡ sets (sets l i xs) (i + length xs) ys
-sets-append [] ys l i = rw add-zero
-sets-append (x ∷ xs) ys l i = rw (add-suc, ← suc-add) (sets-append xs ys (set l i x) (suc i))
 
 -- ---- one piece behind the other
 

@@ -5,10 +5,10 @@ use Rattle.answers.proofs.main.Statement.{statement}
 use Rattle.answers.proofs.main.Tie as tie
 
 abbrev Inv-loop : tie.InvT-loop
-Inv-loop profile₀ left₀ profile left = Unit
+Inv-loop profile₀ words₀ line₀ left₀ profile words line left = Unit
 
 abbrev μ-loop : tie.MeasureT-loop
-μ-loop profile₀ left₀ profile left = left
+μ-loop profile₀ words₀ line₀ left₀ profile words line left = left
 
 pub main-spec : {M : Type 1} → statement M
 main-spec =

@@ -1,0 +1,31 @@
+-- `answers::tables::mark` is safe and ends: each turn leaves fewer words.
+-- Assumes nothing.
+use Prim.Native.Nat.{_-_}
+use mathlib.Core.Path.{_≡_}
+use lib.ListN.{length}
+use borrow.Author.Needs.{needs}
+use Rattle.answers.proofs.tables.mark.Statement.{statement}
+use Rattle.answers.proofs.tables.mark.Tie as tie
+
+abbrev Inv-loop : tie.InvT-loop
+Inv-loop words₀ i₀ words i = length words ≡ length words₀
+
+abbrev μ-loop : tie.MeasureT-loop
+μ-loop words₀ i₀ words i = length words₀ - i
+
+pub mark-spec : {M : Type 1} → statement M
+mark-spec =
+    tie.close
+    (tie.spec
+    Inv-loop
+    μ-loop
+    (λ c. search needs)
+    (λ c. search needs)
+    (λ c. search needs)
+    (λ c. search needs)
+    (λ c. search needs)
+    (λ c. search needs)
+    (λ c. search needs)
+    (λ c. search needs)
+    (λ c. search needs)
+    (λ c. search needs))

@@ -1,0 +1,38 @@
+-- Stores one behind the other: two rows of them make one, a part that is written goes back in its place, and a loop that fills a list.
+-- Assumes nothing.
+use Prim.Native.Nat.{ℕ, zero, suc, _+_, _-_, _≤_, _<_}
+use native.Mathlib.Omega.{arith}
+use native.Mathlib.Nat.{zero-add, add-zero, add-suc, suc-add}
+use native.Mathlib.Numerals.{add-one}
+use mathlib.Core.Path.{_≡_, refl, sym, _∙_, ap}
+use mathlib.Core.List.{List, [], _∷_, _++_, append-nil, append-assoc}
+use lib.ListN.{length, getD, take, drop, set, length-drop, drop-of-length-le}
+use lib.Seq.{sets, sets-eq, drop-cons, take-all, drop-drop}
+use borrow.Rule.Slice.PartMut.{putMid}
+
+pub sets-append : (xs ys l : List ℕ) (i : ℕ) → sets l i (xs ++ ys) ≡ sets (sets l i xs) (i + length xs) ys
+sets-append [] ys l i = rw add-zero
+sets-append (x ∷ xs) ys l i = rw (add-suc, ← suc-add) (sets-append xs ys (set l i x) (suc i))
+
+-- what is written from the first on
+pub front : (s vs : List ℕ) (n : ℕ) → length vs ≡ n → n ≤ length s → vs ++ drop n s ≡ sets s 0 vs
+front s vs n e h = sym (sets-eq vs s 0 (omega arith) ∙ rw (zero-add, e))
+
+-- the part of s from a on, with vs written in front of it, back in its place
+pub rejoined : (s vs : List ℕ) (a n : ℕ) → length vs ≡ n → a + n ≤ length s → (y : List ℕ) → y ≡ vs ++ drop n (take (length s - a) (drop a s)) → putMid a (length s - a) s y ≡ sets s a vs
+rejoined s vs a n e h y f =
+    let l : length (drop a s) ≤ length s - a = simp length-drop (omega arith) in
+    let room : a + length vs ≤ length s = omega arith in
+    rw (f, take-all (length s - a) (drop a s) l, drop-of-length-le (drop a s) l, append-nil, drop-drop, sets-eq vs s a room, e) (sym (append-assoc (take a s) vs (drop (a + n) s)))
+
+-- ---- a loop that fills a list with a row ws: what is left to store makes of it the row
+
+module _ (ws : List ℕ) where
+  pub fill-begins : (l : List ℕ) → length l ≡ length ws → sets l 0 (drop 0 ws) ≡ ws
+  fill-begins l h = sets-eq ws l 0 (omega arith) ∙ rw (zero-add, drop-of-length-le l {i = length ws} (omega arith)) (append-nil ws)
+
+  pub fill-turns : (l : List ℕ) (i v : ℕ) → i < length ws → v ≡ getD ws i 0 → sets l i (drop i ws) ≡ ws → sets (set l i v) (i + 1) (drop (i + 1) ws) ≡ ws
+  fill-turns l i v h e w = rw (add-one, e) (rw (drop-cons ws i 0 h) at w)
+
+  pub fill-ends : (l : List ℕ) (i : ℕ) → length ws ≤ i → sets l i (drop i ws) ≡ ws → l ≡ ws
+  fill-ends l i h w = rw (drop-of-length-le ws {i = i} h) at w

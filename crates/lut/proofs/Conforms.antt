@@ -1,0 +1,151 @@
+-- Conformance to lutAToBType and lutBToAType on the book walk, both ways: a tag whose elements are laid out as the standard says, and keep
+-- within what this library asks besides, is accepted with its fields and its curves; and what is accepted is laid out so.
+-- Assumes nothing.
+use Prim.Native.Nat.{ℕ, _+_, _/_, _≤_, _<_}
+use native.Mathlib.Omega.{arith}
+use mathlib.Core.Path.{_≡_, refl, sym, ap, _∙_, subst}
+use mathlib.Core.Bool.{Bool, true, false, cond, _&&_}
+use mathlib.Core.List.{List, [], _∷_, _++_}
+use mathlib.Core.Logic.{_⊎_, inl, inr}
+use lib.Dec.{ltb, eqb}
+use lib.ListN.{length, drop, length-drop}
+use borrow.Author.Tests.{eq-eqb, ne-eqb, eqb-true, eqb-false, le-ltb, ltb-false}
+use Rattle.clut.specs.Clut.{Seen, is, no, clutOf}
+use Rattle.clut.specs.Table.{Table, lengthOf}
+use Rattle.clut.proofs.Conforms.{conforms as table-conforms, accepted as table-accepted}
+use Rattle.curve.specs.Curve.{curveOf}
+use Rattle.curve.specs.Shape.{Shape, stepOf, is as seen, no as unseen}
+use Rattle.curve.specs.Standard.{Laid, Within}
+use Rattle.curve.specs.declared.Walk.the-variants.{Book}
+use Rattle.curve.proofs.Conforms.{accepted as curve-accepted, laid as curve-laid}
+use Rattle.curve.proofs.Inside.{curve-inside, size-least, book-step}
+use Rattle.run.specs.Run.{Placed, End, whole, Ran, raised, entryAt, runAt, endOf, recordWords}
+use Rattle.run.proofs.Runs.{Reads, run-reads, reads-run, run-count}
+use Rattle.lut.specs.Abm.{noTable, tableOf, valueFrom, recordedOf, judgedOf, withTable, abmOf}
+use Rattle.lut.specs.Answer.{Abm, abm, Answer}
+use Rattle.lut.specs.Layout.{inputs, outputs, aOffset, mOffset, bOffset, matrixOffset, clutOffset, aCurves, mCurves, bCurves, planOf, recordsNeeded}
+use Rattle.lut.specs.Parts.{runA, runM, runB, runsJudged, curvesOf, matrixJudged}
+use Rattle.lut.specs.Standard.{Row, TableThere, TableNot, LaidOut}
+use Rattle.lut.specs.Verdict.{Judged, good, bad, ended}
+use Rattle.lut.proofs.Accepted.{Accepted, accepted}
+use Rattle.lut.proofs.Inside.{matrix-inside}
+use Rattle.lut.proofs.PartLaws.{a-whole, m-whole, b-whole}
+
+-- ---- one run
+
+module _ (limit : ℕ) (t : List ℕ) where
+  -- a curve that is laid out at an offset is seen there
+  seen-there : (at : ℕ) (s : Shape) → Laid (drop at t) s → Within limit s → entryAt limit t at ≡ seen s
+  unfolding entryAt
+  seen-there at s h w =
+      let e = curve-accepted limit (drop at t) s h w in
+      let l : at + 12 ≤ length t = omega (arith, curve-inside limit (drop at t) s e, size-least s, length-drop at t) in
+      rw (le-ltb (length t) (at + 12) l) e
+
+  -- and one that is seen there is laid out so
+  there-seen : (at : ℕ) (s : Shape) → entryAt limit t at ≡ seen s → Laid (drop at t) s × Within limit s
+  unfolding entryAt
+  there-seen at s = by (ltb (length t) (at + 12))
+    where
+      by : (b : Bool) → cond b (unseen 2) (curveOf limit (drop at t)) ≡ seen s → Laid (drop at t) s × Within limit s
+      by true h = let z : _≡_ {A = ℕ} 0 1 = cc in absurd (omega arith)
+      by false h = curve-laid limit (drop at t) s h
+
+  row-reads : (at : ℕ) (cs : List Placed) → Row limit t at cs → Reads Book limit t at cs
+  unfolding Row Reads
+  row-reads at [] h = tt
+  row-reads at (c ∷ cs) (e, l, w, rest) =
+      (e, seen-there at (c .shape) l w, row-reads (raised (at + stepOf Book (c .shape))) cs (rw (e, ← book-step (c .shape)) at rest))
+
+  reads-row : (at : ℕ) (cs : List Placed) → Reads Book limit t at cs → Row limit t at cs
+  unfolding Row Reads
+  reads-row at [] h = tt
+  reads-row at (c ∷ cs) (e, s, rest) =
+      let w = there-seen at (c .shape) s in
+      (e, w .0, w .1, reads-row (raised (endOf c)) cs (rw (book-step (c .shape), ← e) at rest))
+
+  row-run : (at n : ℕ) (cs : List Placed) → Row limit t at cs → length cs ≡ n → runAt Book limit t at n ≡ record { curves = cs; end = whole }
+  row-run at n cs h e = ap (runAt Book limit t at) (sym e) ∙ reads-run Book limit t at cs (row-reads at cs h)
+
+-- ---- the whole tag
+
+matrix-good : (t : List ℕ) → (matrixOffset t ≡ 0) ⊎ (matrixOffset t + 48 ≤ length t) → matrixJudged t ≡ good
+unfolding matrixJudged
+matrix-good t (inl e) = rw (eq-eqb (matrixOffset t) 0 e)
+matrix-good t (inr l) = rw (le-ltb (length t) (matrixOffset t + 48) l) (by (eqb (matrixOffset t) 0))
+  where
+    by : (b : Bool) → cond b good good ≡ good
+    by true = refl
+    by false = refl
+
+table-good : (t : List ℕ) (table : Table) → TableNot t table ⊎ TableThere t table → tableOf t ≡ is table
+unfolding tableOf
+table-good t table (inl h) = rw (eq-eqb (clutOffset t) 0 (h .not-there), h .none)
+table-good t table (inr h) = rw (ne-eqb (clutOffset t) 0 (h .there)) (table-conforms t (clutOffset t) (inputs t) (outputs t) table (h .laid) (h .within))
+
+table-found : (t : List ℕ) (table : Table) → tableOf t ≡ is table → TableNot t table ⊎ TableThere t table
+unfolding tableOf
+table-found t table = by (eqb (clutOffset t) 0) refl
+  where
+    by : (b : Bool) → eqb (clutOffset t) 0 ≡ b → cond b (is noTable) (clutOf t (clutOffset t) (inputs t) (outputs t)) ≡ is table → TableNot t table ⊎ TableThere t table
+    by true e h = inl record { not-there = eqb-true (clutOffset t) 0 e; none = cc }
+    by false e h =
+        let w = table-accepted t (clutOffset t) (inputs t) (outputs t) table h in
+        inr record { there = eqb-false (clutOffset t) 0 e; laid = w .laid; within = w .within }
+
+module _ (limit : ℕ) (t : List ℕ) (table : Table) (a m b : List Placed) (h : LaidOut limit t table a m b) where
+  run-a : runA Book limit t (planOf t) ≡ record { curves = a; end = whole }
+  unfolding planOf
+  run-a = row-run limit t (aOffset t) (aCurves t) a (h .a-row) (h .a-count)
+
+  run-m : runM Book limit t (planOf t) ≡ record { curves = m; end = whole }
+  unfolding planOf
+  run-m = row-run limit t (mOffset t) (mCurves t) m (h .m-row) (h .m-count)
+
+  run-b : runB Book limit t (planOf t) ≡ record { curves = b; end = whole }
+  unfolding planOf
+  run-b = row-run limit t (bOffset t) (bCurves t) b (h .b-row) (h .b-count)
+
+  -- what is laid out so is accepted with its fields, if the slots suffice
+  pub conforms : (words : ℕ) → recordsNeeded t ≤ words / recordWords → abmOf Book limit t words ≡ valueFrom t (table .start) (lengthOf table) (table .size)
+  unfolding abmOf judgedOf recordedOf runsJudged ended
+  conforms words room =
+      rw (h .few-channels, matrix-good t (h .matrix), table-good t table (h .clut), run-a, run-m, run-b, le-ltb (words / recordWords) (recordsNeeded t) room)
+
+  -- and its curves are those
+  pub conforms-curves : curvesOf Book limit t (planOf t) ≡ a ++ m ++ b
+  unfolding curvesOf
+  conforms-curves = rw (run-a, run-m, run-b)
+
+-- what is accepted is laid out so
+pub record Laying (limit : ℕ) (t : List ℕ) (words : ℕ) : Type 0 where
+  pub table : Table
+  pub laid-out : LaidOut limit t table (runA Book limit t (planOf t) .curves) (runM Book limit t (planOf t) .curves) (runB Book limit t (planOf t) .curves)
+  pub answer-is : abmOf Book limit t words ≡ valueFrom t (table .start) (lengthOf table) (table .size)
+
+laying : (limit : ℕ) (t : List ℕ) (table : Table) → ltb 4 (inputs t) && ltb 4 (outputs t) ≡ false → (matrixOffset t ≡ 0) ⊎ (matrixOffset t + 48 ≤ length t) → TableNot t table ⊎ TableThere t table → runA Book limit t (planOf t) .end ≡ whole → runM Book limit t (planOf t) .end ≡ whole → runB Book limit t (planOf t) .end ≡ whole → LaidOut limit t table (runA Book limit t (planOf t) .curves) (runM Book limit t (planOf t) .curves) (runB Book limit t (planOf t) .curves)
+unfolding planOf
+laying limit t table few matrix clut ea em eb =
+    record {
+      few-channels = few;
+      matrix = matrix;
+      clut = clut;
+      a-row = reads-row limit t (aOffset t) _ (run-reads Book limit t (aOffset t) (aCurves t));
+      a-count = run-count Book limit t (aOffset t) (aCurves t) ea;
+      m-row = reads-row limit t (mOffset t) _ (run-reads Book limit t (mOffset t) (mCurves t));
+      m-count = run-count Book limit t (mOffset t) (mCurves t) em;
+      b-row = reads-row limit t (bOffset t) _ (run-reads Book limit t (bOffset t) (bCurves t));
+      b-count = run-count Book limit t (bOffset t) (bCurves t) eb;
+    }
+
+pub laid : (limit : ℕ) (t : List ℕ) (words : ℕ) (f : Abm) → abmOf Book limit t words .state ≡ abm f → Laying limit t words
+laid limit t words f h =
+    let w = accepted Book limit t words f h in
+    let ea : runA Book limit t (planOf t) .end ≡ whole = a-whole Book limit t (planOf t) (w .runs-good) in
+    let em : runM Book limit t (planOf t) .end ≡ whole = m-whole Book limit t (planOf t) (w .runs-good) in
+    let eb : runB Book limit t (planOf t) .end ≡ whole = b-whole Book limit t (planOf t) (w .runs-good) in
+    record {
+      table = w .table;
+      laid-out = laying limit t (w .table) (w .few-channels) (matrix-inside t (w .matrix-good)) (table-found t (w .table) (w .table-is)) ea em eb;
+      answer-is = w .answer-is;
+    }

@@ -1,0 +1,82 @@
+-- Demand 1 of `mAB ` and `mBA `, on both walks: in an accepted answer each curve, the matrix and the colour table lie inside the tag, and
+-- the tag inside the profile.
+-- Assumes nothing.
+use Prim.Native.Nat.{ℕ, _+_, _≤_}
+use native.Mathlib.Omega.{arith}
+use mathlib.Core.Path.{_≡_, refl, sym, ap, _∙_, subst}
+use mathlib.Core.Bool.{Bool, true, false, cond}
+use mathlib.Core.List.{List, [], _∷_, _++_}
+use mathlib.Core.Logic.{_⊎_, inl, inr}
+use lib.Dec.{ltb, eqb}
+use lib.ListN.{length}
+use borrow.Author.Tests.{ltb-false, eqb-true, eqb-false}
+use Rattle.clut.specs.Clut.{Seen, is, no, clutOf}
+use Rattle.clut.specs.Table.{Table, product, lengthOf}
+use Rattle.clut.proofs.Inside.{inside}
+use Rattle.curve.specs.declared.Walk.{Walk}
+use Rattle.run.specs.Run.{Placed, endOf, Each}
+use Rattle.run.proofs.Runs.{run-inside, run-count}
+use Rattle.lut.specs.Abm.{noTable, tableOf, valueFrom, abmOf}
+use Rattle.lut.specs.Answer.{Abm, abm, Answer}
+use Rattle.lut.specs.Layout.{inputs, outputs, matrixOffset, clutOffset, aOffset, mOffset, bOffset, aCurves, mCurves, bCurves, planOf, recordsNeeded}
+use Rattle.lut.specs.Lut.{sizeOf, tagOf, lutOf}
+use Rattle.lut.specs.Parts.{runA, runM, runB, runsJudged, curvesOf, matrixJudged}
+use Rattle.lut.specs.Verdict.{Judged, good, bad}
+use Rattle.lut.proofs.Accepted.{Accepted, accepted, found}
+
+each-append : (P : Placed → Type 0) (k m : List Placed) → Each P k → Each P m → Each P (k ++ m)
+unfolding Each
+each-append P [] m x y = y
+each-append P (c ∷ k) m x y = (x .0, each-append P k m (x .1) y)
+
+-- every curve that a walk meets lies in the tag
+pub curves-inside : (walk : Walk) (limit : ℕ) (t : List ℕ) → Each (λ c. endOf c ≤ length t) (curvesOf walk limit t (planOf t))
+unfolding curvesOf planOf
+curves-inside walk limit t =
+    each-append _ _ _ (each-append _ _ _ (run-inside walk limit t (aOffset t) (aCurves t)) (run-inside walk limit t (mOffset t) (mCurves t))) (run-inside walk limit t (bOffset t) (bCurves t))
+
+-- a matrix that is good is not there, or lies in the tag
+pub matrix-inside : (t : List ℕ) → matrixJudged t ≡ good → (matrixOffset t ≡ 0) ⊎ (matrixOffset t + 48 ≤ length t)
+unfolding matrixJudged
+matrix-inside t = by (eqb (matrixOffset t) 0) refl (ltb (length t) (matrixOffset t + 48)) refl
+  where
+    by : (b : Bool) → eqb (matrixOffset t) 0 ≡ b → (c : Bool) → ltb (length t) (matrixOffset t + 48) ≡ c → cond b good (cond c (bad 2) good) ≡ good → (matrixOffset t ≡ 0) ⊎ (matrixOffset t + 48 ≤ length t)
+    by true e c f h = inl (eqb-true (matrixOffset t) 0 e)
+    by false e true f h = let z : _≡_ {A = ℕ} 0 1 = cc in absurd (omega arith)
+    by false e false f h = inr (ltb-false (length t) (matrixOffset t + 48) f)
+
+-- the data of a table that is there lie in the tag, and one that is not has none
+pub table-inside : (t : List ℕ) (table : Table) → tableOf t ≡ is table → table .start + lengthOf table ≤ length t
+unfolding tableOf
+table-inside t table = by (eqb (clutOffset t) 0)
+  where
+    none : noTable .start + lengthOf noTable ≤ length t
+    none = omega arith
+
+    by : (b : Bool) → cond b (is noTable) (clutOf t (clutOffset t) (inputs t) (outputs t)) ≡ is table → table .start + lengthOf table ≤ length t
+    by true h = let e : noTable ≡ table = cc in subst (λ (x : Table). x .start + lengthOf x ≤ length t) e none
+    by false h = inside t (clutOffset t) (inputs t) (outputs t) table h .data-in-tag
+
+-- told of the answer's own numbers
+pub record Inside (walk : Walk) (limit : ℕ) (p : List ℕ) (entry size words : ℕ) (f : Abm) : Type 0 where
+  pub tag-in-profile : entry + sizeOf size ≤ length p
+  pub curves-in-tag : Each (λ c. endOf c ≤ length (tagOf p entry size)) (curvesOf walk limit (tagOf p entry size) (planOf (tagOf p entry size)))
+  pub matrix-in-tag : (matrixOffset (tagOf p entry size) ≡ 0) ⊎ (matrixOffset (tagOf p entry size) + 48 ≤ length (tagOf p entry size))
+  pub table-in-tag : f .start + f .bytes ≤ length (tagOf p entry size)
+
+pub lut-inside : (walk : Walk) (limit : ℕ) (p : List ℕ) (entry size words : ℕ) (f : Abm) → lutOf walk limit p entry size words .state ≡ abm f → Inside walk limit p entry size words f
+unfolding valueFrom
+lut-inside walk limit p entry size words f h =
+    let t : List ℕ = tagOf p entry size in
+    let w = found walk limit p entry size words f h in
+    let g : abmOf walk limit t words .state ≡ abm f = ap (λ (a : Answer). a .state) (sym (w .as-tag)) ∙ h in
+    let v = accepted walk limit t words f g in
+    let e : abm f ≡ valueFrom t (v .table .start) (lengthOf (v .table)) (v .table .size) .state = sym g ∙ ap (λ (a : Answer). a .state) (v .answer-is) in
+    let e₁ : f .start ≡ v .table .start = cc in
+    let e₂ : f .bytes ≡ lengthOf (v .table) = cc in
+    record {
+      tag-in-profile = w .tag-in-profile;
+      curves-in-tag = curves-inside walk limit t;
+      matrix-in-tag = matrix-inside t (v .matrix-good);
+      table-in-tag = omega (arith, e₁, e₂, table-inside t (v .table) (v .table-is));
+    }

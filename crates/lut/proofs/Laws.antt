@@ -1,0 +1,210 @@
+-- The reader of lookup tables, case by case, as the code meets it: each law gives what is answered and what is left of the slots.
+-- Assumes nothing.
+use Prim.Native.Nat.{ℕ, _+_, _-_, _*_, _/_, _^_, _≤_, _<_}
+use native.Mathlib.Nat.{div-lt-iff-lt-mul, le-div-iff-mul-le}
+use native.Mathlib.Omega.{arith}
+use mathlib.Core.Path.{_≡_, refl, sym, _∙_, ap}
+use mathlib.Core.Bool.{Bool, true, false, _&&_}
+use mathlib.Core.List.{List, [], _∷_, _++_}
+use lib.Dec.{ltb, leb}
+use lib.ListN.{length, getD, take, drop, length-take}
+use types.Run.{OneOf}
+use denote.Enum.Declared.{tagOf as placeIn}
+use borrow.Author.Tests.{eq-eqb, ne-eqb, lt-ltb, le-ltb}
+use Rattle.fields.specs.Bytes.{u32At}
+use Rattle.fields.specs.Place.{placeOf}
+use Rattle.fields.specs.Refusals.{numberOf}
+use Rattle.fields.specs.Tag.{signatureOf, kindOf as namedBy}
+use Rattle.fields.specs.declared.Kind.{Kind}
+use Rattle.fields.specs.declared.Kind.the-variants.{Mab, Mba, Other}
+use Rattle.fields.specs.declared.Place.{Place}
+use Rattle.fields.specs.declared.Place.the-variants.{In, Past}
+use Rattle.fields.specs.declared.Refusal.{Refusal}
+use Rattle.fields.proofs.Kind as kinds
+use Rattle.fields.proofs.Located.{inside, past, part-is}
+use Rattle.fields.proofs.Signatures.{arm, unlike, others}
+use Rattle.clut.specs.Answer.{paper as clutPaper, toldOf, Told, value as clutValue, refused as clutRefused}
+use Rattle.clut.specs.Clut.{Seen, is, no, clutOf}
+use Rattle.clut.specs.Table.{Table, product, pointsOf, lengthOf}
+use Rattle.clut.specs.declared.ClutAnswer.{ClutAnswer}
+use Rattle.clut.specs.declared.ColourTable.{ColourTable}
+use Rattle.curve.specs.declared.Walk.{Walk}
+use Rattle.run.specs.Run.{recordWords, recordsOf}
+use Rattle.lut.specs.Abm.{tableOf, valueFrom, recordedOf, judgedOf, withTable, abmOf}
+use Rattle.lut.specs.Answer.{abm, absent, refused, Answer, none, refuse, paper, orRefused}
+use Rattle.lut.specs.Layout.{toPcs, inputs, outputs, aCurves, mCurves, bCurves, planOf, Planned, recordsNeeded, gridOf, matrixOf, biasOf}
+use Rattle.lut.specs.Lut.{Said, sizeOf, tagOf, kindOf, lutOf}
+use Rattle.lut.specs.Parts.{runsJudged, curvesOf, matrixJudged}
+use Rattle.lut.specs.Verdict.{Judged, good, bad, judgedFrom}
+use Rattle.lut.specs.declared.abm.Lut.{Lut}
+use Rattle.lut.specs.declared.abm.Plan.{Plan}
+use Rattle.lut.specs.declared.nested.Verdict.{Verdict}
+use Rattle.lut.proofs.PartLaws.{all-length}
+
+-- ---- the parts of the answer
+
+module _ (t : List ℕ) (n : ℕ) (h : n ≡ getD t 8 0) where
+  pub few-inputs : n ≤ 4 → false ≡ ltb 4 (inputs t) && ltb 4 (outputs t)
+  few-inputs l = simp (← h, le-ltb _ _ l)
+
+  pub many-inputs : 4 < n → (m : ℕ) → m ≡ getD t 9 0 → ltb 4 m ≡ ltb 4 (inputs t) && ltb 4 (outputs t)
+  many-inputs l m e = simp (← h, ← e, lt-ltb _ _ l)
+
+module _ (t : List ℕ) (at : ℕ) (h : at ≡ u32At t 24) where
+  pub table-none : at ≡ 0 → clutValue 1 0 0 0 ≡ toldOf (tableOf t)
+  unfolding tableOf toldOf product
+  table-none e = simp (← h, eq-eqb _ _ e)
+
+  pub table-there : (at ≡ 0 → ⊥) → (i o : ℕ) → i ≡ getD t 8 0 → o ≡ getD t 9 0 → (r : Told) → r ≡ toldOf (clutOf t at i o) → r ≡ toldOf (tableOf t)
+  unfolding tableOf
+  table-there e i o ei eo r w = simp (← h, ne-eqb _ _ e, ← ei, ← eo) w
+
+pub valued : (t : List ℕ) (p : Plan) → Planned t p → (to : Bool) (i o start bytes size : ℕ) (g m b : List ℕ) → to ≡ toPcs t → i ≡ getD t 8 0 → o ≡ getD t 9 0 → g ≡ gridOf t → m ≡ matrixOf t → b ≡ biasOf t → record { state = abm record { toPcs = to; inputs = i; outputs = o; start = start; bytes = bytes; size = size; a = p .na; m = p .nm; b = p .nb }; grid = g; matrix = m; bias = b } ≡ valueFrom t start bytes size
+unfolding valueFrom planOf
+valued t p w to i o start bytes size g m b e₁ e₂ e₃ e₄ e₅ e₆ = rw (w .is, e₁, e₂, e₃, e₄, e₅, e₆)
+
+-- ---- what is answered, and what is left
+
+module _ (walk : Walk) (limit : ℕ) (t s : List ℕ) (a : Answer) (r : Lut) where
+  pub refusing : (n : ℕ) → a ≡ refuse n → paper r ≡ refuse n → Said walk limit t a r s s
+  refusing n e h = record { answer-is = h ∙ sym e; left-is = rw e }
+
+  pub missing : a ≡ none → paper r ≡ none → Said walk limit t a r s s
+  missing e h = record { answer-is = h ∙ sym e; left-is = rw e }
+
+  -- a meaning that comes to another
+  pub same : (b : Answer) (u : List ℕ) → b ≡ a → Said walk limit t b r s u → Said walk limit t a r s u
+  same b u e h = rw e at h
+
+-- a slot is a whole record's words
+fits : (words needed : ℕ) → needed ≤ words / 10 → needed * 10 ≤ words
+fits words needed h = le-div-iff-mul-le {k = 10} {x = needed} {y = words} (omega arith) .0 h
+
+module _ (walk : Walk) (limit : ℕ) (t : List ℕ) (p : Plan) (w : Planned t p) (words start bytes size : ℕ) where
+  need : p .na + p .nm + p .nb ≡ recordsNeeded t
+  unfolding recordsNeeded planOf
+  need = rw (w .is)
+
+  pub few-slots : words / 10 < p .na + p .nm + p .nb → recordedOf t words start bytes size ≡ refuse 14
+  unfolding recordedOf
+  few-slots l = let k : words / 10 < recordsNeeded t = omega (arith, need) in rw (lt-ltb _ _ k)
+
+  pub enough-slots : p .na + p .nm + p .nb ≤ words / 10 → recordedOf t words start bytes size ≡ valueFrom t start bytes size
+  unfolding recordedOf
+  enough-slots l = let k : recordsNeeded t ≤ words / 10 = omega (arith, need) in rw (le-ltb _ _ k)
+
+module _ (walk : Walk) (limit : ℕ) (t s : List ℕ) (p : Plan) (w : Planned t p) (start bytes size : ℕ) (r : Lut) where
+  pub record-short : length s / 10 < p .na + p .nm + p .nb → paper r ≡ refuse 14 → Said walk limit t (recordedOf t (length s) start bytes size) r s s
+  record-short l h = refusing walk limit t s _ r 14 (few-slots walk limit t p w (length s) start bytes size l) h
+
+  pub record-room : p .na + p .nm + p .nb ≤ length s / 10 → (p .na + p .nm + p .nb) * recordWords ≤ length s
+  record-room l = fits (length s) (p .na + p .nm + p .nb) l
+
+  pub record-written : p .na + p .nm + p .nb ≤ length s / 10 → runsJudged walk limit t p ≡ good → (s' : List ℕ) → s' ≡ recordsOf (curvesOf walk limit t p) ++ drop ((p .na + p .nm + p .nb) * recordWords) s → paper r ≡ valueFrom t start bytes size → Said walk limit t (recordedOf t (length s) start bytes size) r s s'
+  unfolding valueFrom
+  record-written l g s' e h =
+      let f = enough-slots walk limit t p w (length s) start bytes size l in
+      let n = all-length walk limit t p g in
+      record { answer-is = h ∙ sym f; left-is = rw (f, ← w .is, n) e }
+
+module _ (walk : Walk) (limit : ℕ) (t s : List ℕ) (p : Plan) (w : Planned t p) (v : Verdict) (j : judgedFrom v ≡ runsJudged walk limit t p) (start bytes size : ℕ) where
+  judged : judgedFrom v ≡ runsJudged walk limit t (planOf t)
+  judged = j ∙ ap (runsJudged walk limit t) (w .is)
+
+  pub runs-good : v ≡ Verdict.Good → runsJudged walk limit t p ≡ good
+  runs-good e = sym j ∙ ap judgedFrom e
+
+  pub runs-refused : (why : Refusal) (r : Lut) → v ≡ Verdict.Refused why → paper r ≡ refuse (numberOf why) → Said walk limit t (judgedOf walk limit t (length s) start bytes size) r s s
+  unfolding judgedOf
+  runs-refused why r e h = refusing walk limit t s _ r (numberOf why) (rw (← judged, e)) h
+
+  pub runs-passed : (r : Lut) (s' : List ℕ) → v ≡ Verdict.Good → Said walk limit t (recordedOf t (length s) start bytes size) r s s' → Said walk limit t (judgedOf walk limit t (length s) start bytes size) r s s'
+  unfolding judgedOf
+  runs-passed r s' e h = same walk limit t s _ r _ s' (rw (← judged, e)) h
+
+module _ (walk : Walk) (limit : ℕ) (t s : List ℕ) (found : ClutAnswer) (h : clutPaper found ≡ toldOf (tableOf t)) where
+  pub table-refused : (why : Refusal) (r : Lut) → found ≡ ClutAnswer.Refused why → paper r ≡ refuse (numberOf why) → Said walk limit t (withTable walk limit t (length s) (tableOf t)) r s s
+  unfolding toldOf
+  table-refused why r e g = by (tableOf t) refl
+    where
+      by : (x : Seen) → tableOf t ≡ x → Said walk limit t (withTable walk limit t (length s) (tableOf t)) r s s
+      by (is table) f = let k : clutRefused (numberOf why) ≡ toldOf (is table) = sym (ap clutPaper e) ∙ h ∙ ap toldOf f in let z : _≡_ {A = ℕ} 0 1 = cc in absurd (omega arith)
+      by (no n) f = let k : clutRefused (numberOf why) ≡ toldOf (no n) = sym (ap clutPaper e) ∙ h ∙ ap toldOf f in refusing walk limit t s _ r (numberOf why) (rw f (let z : n ≡ numberOf why = cc in ap refuse z)) g
+
+  pub table-passed : (c : ColourTable) (r : Lut) (s' : List ℕ) → found ≡ ClutAnswer.Value c → Said walk limit t (judgedOf walk limit t (length s) (c .start .0) (c .length) (c .«entry_size»)) r s s' → Said walk limit t (withTable walk limit t (length s) (tableOf t)) r s s'
+  unfolding toldOf
+  table-passed c r s' e g = by (tableOf t) refl
+    where
+      by : (x : Seen) → tableOf t ≡ x → Said walk limit t (withTable walk limit t (length s) (tableOf t)) r s s'
+      by (is table) f =
+          let k : clutPaper (ClutAnswer.Value c) ≡ toldOf (is table) = sym (ap clutPaper e) ∙ h ∙ ap toldOf f in
+          let k₁ : c .start .0 ≡ table .start = cc in
+          let k₂ : c .length ≡ lengthOf table = cc in
+          let k₃ : c .«entry_size» ≡ table .size = cc in
+          rw (f, ← k₁, ← k₂, ← k₃) g
+      by (no n) f = let k : clutPaper (ClutAnswer.Value c) ≡ toldOf (no n) = sym (ap clutPaper e) ∙ h ∙ ap toldOf f in let z : _≡_ {A = ℕ} 0 1 = cc in absurd (omega arith)
+
+module _ (walk : Walk) (limit : ℕ) (t s : List ℕ) (b : Bool) (h : b ≡ ltb 4 (inputs t) && ltb 4 (outputs t)) where
+  pub abm-absent : (r : Lut) → b ≡ true → paper r ≡ none → Said walk limit t (abmOf walk limit t (length s)) r s s
+  unfolding abmOf
+  abm-absent r e g = missing walk limit t s _ r (rw (← h, e)) g
+
+  module _ (e : b ≡ false) (v : Verdict) (j : judgedFrom v ≡ matrixJudged t) where
+    pub matrix-refused : (why : Refusal) (r : Lut) → v ≡ Verdict.Refused why → paper r ≡ refuse (numberOf why) → Said walk limit t (abmOf walk limit t (length s)) r s s
+    unfolding abmOf
+    matrix-refused why r f g = refusing walk limit t s _ r (numberOf why) (rw (← h, e, ← j, f)) g
+
+    pub matrix-passed : (r : Lut) (s' : List ℕ) → v ≡ Verdict.Good → Said walk limit t (withTable walk limit t (length s) (tableOf t)) r s s' → Said walk limit t (abmOf walk limit t (length s)) r s s'
+    unfolding abmOf
+    matrix-passed r s' f g = same walk limit t s _ r _ s' (rw (← h, e, ← j, f)) g
+
+-- ---- the type
+
+mab-mba : signatureOf Mba ≡ signatureOf Mab → ⊥
+unfolding signatureOf
+mab-mba e = omega arith
+
+module _ (walk : Walk) (limit : ℕ) (t s : List ℕ) (k : Kind) (h : k ≡ namedBy (u32At t 0)) (r : Lut) where
+  pub kind-mab : k ≡ Mab → (s' : List ℕ) → Said walk limit t (abmOf walk limit t (length s)) r s s' → Said walk limit t (kindOf walk limit t (length s)) r s s'
+  unfolding kindOf
+  kind-mab e s' g =
+      let i : u32At t 0 ≡ signatureOf Mab = arm _ Mab (λ o. let z : _≡_ {A = ℕ} 0 1 = cc in omega arith) h e in
+      same walk limit t s _ r _ s' (rw (eq-eqb _ _ i)) g
+
+  pub kind-mba : k ≡ Mba → (s' : List ℕ) → Said walk limit t (abmOf walk limit t (length s)) r s s' → Said walk limit t (kindOf walk limit t (length s)) r s s'
+  unfolding kindOf
+  kind-mba e s' g =
+      let i : u32At t 0 ≡ signatureOf Mba = arm _ Mba (λ o. let z : _≡_ {A = ℕ} 0 1 = cc in omega arith) h e in
+      let n : u32At t 0 ≡ signatureOf Mab → ⊥ = λ m. mab-mba (sym i ∙ m) in
+      same walk limit t s _ r _ s' (rw (ne-eqb _ _ n, eq-eqb _ _ i)) g
+
+  pub kind-other : OneOf (others (Mab ∷ Mba ∷ [])) (placeIn kinds.the-type k) → paper r ≡ refuse 3 → Said walk limit t (kindOf walk limit t (length s)) r s s
+  unfolding kindOf
+  kind-other o g =
+      let rest = others (Mab ∷ Mba ∷ []) in
+      refusing walk limit t s _ r 3 (rw (ne-eqb _ _ (unlike _ Mab rest refl h o), ne-eqb _ _ (unlike _ Mba rest refl h o))) g
+
+-- ---- the tag in its profile
+
+module _ (walk : Walk) (limit : ℕ) (p s : List ℕ) (entry size end : ℕ) (n : end ≡ sizeOf size) (place : Place) (h : place ≡ placeOf (length p) entry end) (r : Lut) where
+  pub lut-past : place ≡ Past → paper r ≡ refuse 1 → Said walk limit (tagOf p entry size) (lutOf walk limit p entry size (length s)) r s s
+  unfolding lutOf
+  lut-past e g = refusing walk limit _ s _ r 1 (rw (← n, lt-ltb _ _ (past _ _ _ h e))) g
+
+  module _ (from to : ℕ) (e : place ≡ In from to) where
+    pub lut-short : end < 48 → paper r ≡ refuse 2 → Said walk limit (tagOf p entry size) (lutOf walk limit p entry size (length s)) r s s
+    unfolding lutOf
+    lut-short l g = let i = inside _ _ _ h e in refusing walk limit _ s _ r 2 (rw (← n, le-ltb _ _ (i .fits), lt-ltb _ _ l)) g
+
+    pub lut-kind : 48 ≤ end → (s' : List ℕ) → Said walk limit (take (to - from) (drop from p)) (kindOf walk limit (take (to - from) (drop from p)) (length s)) r s s' → Said walk limit (tagOf p entry size) (lutOf walk limit p entry size (length s)) r s s'
+    unfolding lutOf
+    lut-kind l s' g =
+        let i = inside _ _ _ h e in
+        let same-tag : take (to - from) (drop from p) ≡ tagOf p entry size = rw (i .from-is, i .to-is, part-is p entry end, n) in
+        same walk limit _ s _ r _ s' (rw (← n, le-ltb _ _ (i .fits), le-ltb _ _ l, n)) (rw same-tag at g)
+
+-- a tag is shorter than 2^32
+pub tag-short : (p : List ℕ) (entry end from to : ℕ) (place : Place) → place ≡ placeOf (length p) entry end → place ≡ In from to → end < 2 ^ 32 → length (take (to - from) (drop from p)) < 2 ^ 32
+tag-short p entry end from to place h e l =
+    let i = inside _ _ _ h e in
+    omega (arith, length-take (to - from) (drop from p))

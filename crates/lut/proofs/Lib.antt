@@ -1,0 +1,9 @@
+pub mod RunLaws
+pub mod PartLaws
+pub mod Laws
+pub mod Accepted
+pub mod Unique
+pub mod Inside
+pub mod More
+pub mod Conforms
+pub mod Cases

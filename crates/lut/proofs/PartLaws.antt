@@ -1,0 +1,241 @@
+-- The parts of a tag, case by case, as the code meets them.
+-- Assumes nothing.
+use Prim.Native.Nat.{ℕ, _+_, _-_, _*_, _^_, _≤_, _<_}
+use native.Mathlib.Omega.{arith}
+use mathlib.Core.Path.{_≡_, refl, sym, _∙_, ap}
+use mathlib.Core.Bool.{Bool, true, false}
+use mathlib.Core.List.{List, [], _∷_, _++_}
+use lib.ListN.{length, getD, take, drop, set, replicate, length-append}
+use lib.Seq.{sets, length-sets}
+use types.Run.{OneOf}
+use denote.Enum.Declared.{tagOf as placeIn}
+use borrow.Author.Tests.{eq-eqb, ne-eqb, lt-ltb, le-ltb}
+use borrow.Rule.Slice.PartMut.{putMid}
+use Rattle.fields.specs.Bytes.{u32At, bytesAt, wordsAt}
+use Rattle.fields.proofs.Stores.{sets-append, front, rejoined, fill-begins, fill-turns, fill-ends}
+use Rattle.fields.proofs.Words.{word-at, words-length, byte-at, bytes-length}
+use Rattle.curve.specs.declared.Walk.{Walk}
+use Rattle.run.specs.Run.{Placed, End, whole, stopped, Ran, runAt, recordWords, recordsOf}
+use Rattle.run.proofs.Runs.{run-count}
+use Rattle.run.proofs.Writing.{records-length, records-append}
+use Rattle.lut.specs.Layout.{toPcs, inputs, outputs, deviceChannels, spaceChannels, present, Few, aOffset, mOffset, bOffset, matrixOffset, clutOffset, aCurves, mCurves, bCurves, planOf, Planned, identity, matrixOf, biasOf, gridOf}
+use Rattle.lut.specs.Parts.{runA, runM, runB, runsJudged, curvesOf, matrixJudged}
+use Rattle.lut.specs.Verdict.{Judged, good, bad, judgedFrom, ended, andThen}
+use Rattle.lut.specs.declared.abm.Plan.{Plan}
+use Rattle.lut.specs.declared.nested.Verdict.{Verdict}
+use Rattle.lut.proofs.nested.Verdict as verdicts
+
+-- ---- channels and curves
+
+module _ (t : List ℕ) (to : Bool) (h : to ≡ toPcs t) (n : ℕ) where
+  pub device-to : to ≡ true → n ≡ getD t 8 0 → n ≡ deviceChannels t
+  unfolding deviceChannels
+  device-to e f = rw (← h, e) f
+
+  pub device-from : to ≡ false → n ≡ getD t 9 0 → n ≡ deviceChannels t
+  unfolding deviceChannels
+  device-from e f = rw (← h, e) f
+
+  pub space-to : to ≡ true → n ≡ getD t 9 0 → n ≡ spaceChannels t
+  unfolding spaceChannels
+  space-to e f = rw (← h, e) f
+
+  pub space-from : to ≡ false → n ≡ getD t 8 0 → n ≡ spaceChannels t
+  unfolding spaceChannels
+  space-from e f = rw (← h, e) f
+
+pub ruleset channel-laws = (device-to, device-from, space-to, space-from)
+
+module _ (offset n : ℕ) where
+  pub none-few : offset ≡ 0 → Few (present offset n) 0
+  unfolding present
+  none-few e = record { is = sym (rw (eq-eqb offset 0 e)); few = omega arith }
+
+  pub some-few : (offset ≡ 0 → ⊥) → n < 256 → Few (present offset n) n
+  unfolding present
+  some-few e l = record { is = sym (rw (ne-eqb offset 0 e)); few = l }
+
+module _ (t : List ℕ) (offset channels r : ℕ) (few : Few (present offset channels) r) where
+  pub a-few : offset ≡ u32At t 28 → channels ≡ deviceChannels t → Few (aCurves t) r
+  unfolding aCurves
+  a-few e f = rw (← e, ← f) few
+
+  pub m-few : offset ≡ u32At t 20 → channels ≡ spaceChannels t → Few (mCurves t) r
+  unfolding mCurves
+  m-few e f = rw (← e, ← f) few
+
+  pub b-few : offset ≡ u32At t 12 → channels ≡ spaceChannels t → Few (bCurves t) r
+  unfolding bCurves
+  b-few e f = rw (← e, ← f) few
+
+pub ruleset few-laws = (none-few, some-few, a-few, m-few, b-few)
+
+pub planned : (t : List ℕ) (p : Plan) → p .a ≡ u32At t 28 → Few (aCurves t) (p .na) → p .m ≡ u32At t 20 → Few (mCurves t) (p .nm) → p .b ≡ u32At t 12 → Few (bCurves t) (p .nb) → Planned t p
+unfolding planOf
+planned t p ea fa em fm eb fb =
+    record { is = rw (← ea, ← fa .is, ← em, ← fm .is, ← eb, ← fb .is); a-few = fa .few; m-few = fm .few; b-few = fb .few }
+
+-- ---- the matrix
+
+module _ (t : List ℕ) (at : ℕ) (h : at ≡ u32At t 16) where
+  pub matrix-none : at ≡ 0 → good ≡ matrixJudged t
+  unfolding matrixJudged
+  matrix-none e = simp (← h, eq-eqb _ _ e)
+
+  pub matrix-past : (at ≡ 0 → ⊥) → length t < at + 48 → bad 2 ≡ matrixJudged t
+  unfolding matrixJudged
+  matrix-past e l = simp (← h, ne-eqb _ _ e, lt-ltb _ _ l)
+
+  pub matrix-there : (at ≡ 0 → ⊥) → at + 48 ≤ length t → good ≡ matrixJudged t
+  unfolding matrixJudged
+  matrix-there e l = simp (← h, ne-eqb _ _ e, le-ltb _ _ l)
+
+pub ruleset matrix-laws = (matrix-none, matrix-past, matrix-there)
+
+-- ---- the runs, judged
+
+-- a verdict that is not good
+stop-here : (v : Verdict) (j next : Judged) → OneOf (1 ∷ []) (placeIn verdicts.the-type v) → judgedFrom v ≡ j → judgedFrom v ≡ andThen j next
+stop-here Verdict.Good j next o h = absurd (omega arith)
+stop-here (Verdict.Refused why) good next o h = let z : _≡_ {A = ℕ} 0 1 = cc in absurd (omega arith)
+stop-here (Verdict.Refused why) (bad n) next o h = h
+
+pass-here : (v : Verdict) (j next : Judged) → v ≡ Verdict.Good → judgedFrom v ≡ j → next ≡ andThen j next
+pass-here v good next e h = refl
+pass-here v (bad n) next e h = let z : _≡_ {A = ℕ} 0 1 = cc in absurd (omega arith)
+
+module _ (walk : Walk) (limit : ℕ) (t : List ℕ) (p : Plan) (v : Verdict) (ja : judgedFrom v ≡ ended (runA walk limit t p .end)) where
+  pub runs-a : OneOf (1 ∷ []) (placeIn verdicts.the-type v) → judgedFrom v ≡ runsJudged walk limit t p
+  unfolding runsJudged
+  runs-a o = stop-here v _ _ o ja
+
+  module _ (g : v ≡ Verdict.Good) (w : Verdict) (jm : judgedFrom w ≡ ended (runM walk limit t p .end)) where
+    pub runs-m : OneOf (1 ∷ []) (placeIn verdicts.the-type w) → judgedFrom w ≡ runsJudged walk limit t p
+    unfolding runsJudged
+    runs-m o = stop-here w _ _ o jm ∙ pass-here v _ _ g ja
+
+    pub runs-b : (x : Verdict) → w ≡ Verdict.Good → judgedFrom x ≡ ended (runB walk limit t p .end) → judgedFrom x ≡ runsJudged walk limit t p
+    unfolding runsJudged
+    runs-b x e jb = jb ∙ pass-here w _ _ e jm ∙ pass-here v _ _ g ja
+
+pub ruleset runs-laws = (runs-a, runs-m, runs-b)
+
+-- ---- the runs, written
+
+ended-good : (e : End) → ended e ≡ good → e ≡ whole
+unfolding ended
+ended-good whole h = refl
+ended-good (stopped n at) h = let z : _≡_ {A = ℕ} 0 1 = cc in absurd (omega arith)
+
+first-good : (j k : Judged) → andThen j k ≡ good → j ≡ good
+first-good good k h = refl
+first-good (bad n) k h = h
+
+second-good : (j k : Judged) → andThen j k ≡ good → k ≡ good
+second-good good k h = h
+second-good (bad n) k h = let z : _≡_ {A = ℕ} 0 1 = cc in absurd (omega arith)
+
+module _ (walk : Walk) (limit : ℕ) (t : List ℕ) (p : Plan) (h : runsJudged walk limit t p ≡ good) where
+  abbrev ends : (Walk → ℕ → List ℕ → Plan → Ran) → Judged
+  ends run = ended (run walk limit t p .end)
+
+  pub a-whole : runA walk limit t p .end ≡ whole
+  unfolding runsJudged
+  a-whole = ended-good (runA walk limit t p .end) (first-good (ends runA) (andThen (ends runM) (ends runB)) h)
+
+  pub m-whole : runM walk limit t p .end ≡ whole
+  unfolding runsJudged
+  m-whole = ended-good (runM walk limit t p .end) (first-good (ends runM) (ends runB) (second-good (ends runA) (andThen (ends runM) (ends runB)) h))
+
+  pub b-whole : runB walk limit t p .end ≡ whole
+  unfolding runsJudged
+  b-whole = ended-good (runB walk limit t p .end) (second-good (ends runM) (ends runB) (second-good (ends runA) (andThen (ends runM) (ends runB)) h))
+
+  -- as many words as a whole run has records
+  records-of : (at n : ℕ) → runAt walk limit t at n .end ≡ whole → length (recordsOf (runAt walk limit t at n .curves)) ≡ n * recordWords
+  records-of at n w = records-length (runAt walk limit t at n .curves) ∙ ap (λ (k : ℕ). k * recordWords) (run-count walk limit t at n w)
+
+  all-records : recordsOf (curvesOf walk limit t p) ≡ recordsOf (runA walk limit t p .curves) ++ recordsOf (runM walk limit t p .curves) ++ recordsOf (runB walk limit t p .curves)
+  unfolding curvesOf
+  all-records = records-append (runA walk limit t p .curves ++ runM walk limit t p .curves) (runB walk limit t p .curves) ∙ ap (λ (x : List ℕ). x ++ recordsOf (runB walk limit t p .curves)) (records-append (runA walk limit t p .curves) (runM walk limit t p .curves))
+
+  pub all-length : length (recordsOf (curvesOf walk limit t p)) ≡ (p .na + p .nm + p .nb) * recordWords
+  all-length = ap length all-records ∙ simp length-append (omega (arith, records-of (p .a) (p .na) a-whole, records-of (p .m) (p .nm) m-whole, records-of (p .b) (p .nb) b-whole))
+
+  -- each run is written in front of its part: s₁, s₂ are the slots between the calls, and y₂, y₃ what the calls left of the parts
+  pub runs-written : (s₀ : List ℕ) → (p .na + p .nm + p .nb) * recordWords ≤ length s₀
+      → (s₁ : List ℕ) → s₁ ≡ recordsOf (runA walk limit t p .curves) ++ drop (p .na * recordWords) s₀
+      → (y₂ : List ℕ) → y₂ ≡ recordsOf (runM walk limit t p .curves) ++ drop (p .nm * recordWords) (take (length s₁ - p .na * recordWords) (drop (p .na * recordWords) s₁))
+      → (s₂ : List ℕ) → s₂ ≡ putMid (p .na * recordWords) (length s₁ - p .na * recordWords) s₁ y₂
+      → (y₃ : List ℕ) → y₃ ≡ recordsOf (runB walk limit t p .curves) ++ drop (p .nb * recordWords) (take (length s₂ - (p .na + p .nm) * recordWords) (drop ((p .na + p .nm) * recordWords) s₂))
+      → putMid ((p .na + p .nm) * recordWords) (length s₂ - (p .na + p .nm) * recordWords) s₂ y₃ ≡ recordsOf (curvesOf walk limit t p) ++ drop ((p .na + p .nm + p .nb) * recordWords) s₀
+  runs-written s₀ room s₁ e₁ y₂ e₂ s₂ p₂ y₃ e₃ =
+      let A : List ℕ = recordsOf (runA walk limit t p .curves) in
+      let M : List ℕ = recordsOf (runM walk limit t p .curves) in
+      let B : List ℕ = recordsOf (runB walk limit t p .curves) in
+      let la : length A ≡ p .na * recordWords = records-of (p .a) (p .na) a-whole in
+      let lm : length M ≡ p .nm * recordWords = records-of (p .m) (p .nm) m-whole in
+      let lb : length B ≡ p .nb * recordWords = records-of (p .b) (p .nb) b-whole in
+      let w₁ : s₁ ≡ sets s₀ 0 A = e₁ ∙ front s₀ A (p .na * recordWords) la (omega arith) in
+      let l₁ : length s₁ ≡ length s₀ = ap length w₁ ∙ length-sets s₀ 0 A in
+      let w₂ : s₂ ≡ sets s₁ (p .na * recordWords) M = p₂ ∙ rejoined s₁ M (p .na * recordWords) (p .nm * recordWords) lm (omega arith) y₂ e₂ in
+      let l₂ : length s₂ ≡ length s₁ = ap length w₂ ∙ length-sets s₁ (p .na * recordWords) M in
+      let n : length (A ++ M ++ B) ≡ (p .na + p .nm + p .nb) * recordWords = simp length-append (omega arith) in
+      let i : (p .na + p .nm) * recordWords ≡ 0 + length (A ++ M) = simp length-append (omega arith) in
+      let j : p .na * recordWords ≡ 0 + length A = omega arith in
+      rejoined s₂ B ((p .na + p .nm) * recordWords) (p .nb * recordWords) lb (omega arith) y₃ e₃
+      ∙ ap (λ (x : List ℕ). sets x ((p .na + p .nm) * recordWords) B) (w₂ ∙ ap (λ (x : List ℕ). sets x (p .na * recordWords) M) w₁)
+      ∙ ap (λ (k : ℕ). sets (sets (sets s₀ 0 A) k M) ((p .na + p .nm) * recordWords) B) j
+      ∙ ap (λ (x : List ℕ). sets x ((p .na + p .nm) * recordWords) B) (sym (sets-append A M s₀ 0))
+      ∙ ap (λ (k : ℕ). sets (sets s₀ 0 (A ++ M)) k B) i
+      ∙ sym (sets-append (A ++ M) B s₀ 0)
+      ∙ sym (front s₀ (A ++ M ++ B) ((p .na + p .nm + p .nb) * recordWords) n room)
+      ∙ ap (λ (x : List ℕ). x ++ drop ((p .na + p .nm + p .nb) * recordWords) s₀) (sym all-records)
+
+-- ---- rows read into arrays
+
+module _ (t : List ℕ) (at : ℕ) where
+  pub matrix-given : at ≡ u32At t 16 → (at ≡ 0 → ⊥) → (ws : List ℕ) → ws ≡ wordsAt t at 9 → ws ≡ matrixOf t
+  unfolding matrixOf
+  matrix-given h e ws w = rw (← h, ne-eqb at 0 e) w
+
+  pub matrix-default : at ≡ u32At t 16 → at ≡ 0 → identity ≡ matrixOf t
+  unfolding matrixOf
+  matrix-default h e = rw (← h, eq-eqb at 0 e)
+
+  pub bias-given : at ≡ u32At t 16 → (at ≡ 0 → ⊥) → (ws : List ℕ) → ws ≡ wordsAt t (at + 36) 3 → ws ≡ biasOf t
+  unfolding biasOf
+  bias-given h e ws w = rw (← h, ne-eqb at 0 e) w
+
+  pub bias-default : at ≡ u32At t 16 → at ≡ 0 → replicate 3 0 ≡ biasOf t
+  unfolding biasOf
+  bias-default h e = rw (← h, eq-eqb at 0 e)
+
+  pub grid-given : at ≡ u32At t 24 → (at ≡ 0 → ⊥) → (bs : List ℕ) → bs ≡ bytesAt t at 16 → bs ≡ gridOf t
+  unfolding gridOf
+  grid-given h e bs w = rw (← h, ne-eqb at 0 e) w
+
+  pub grid-default : at ≡ u32At t 24 → at ≡ 0 → replicate 16 0 ≡ gridOf t
+  unfolding gridOf
+  grid-default h e = rw (← h, eq-eqb at 0 e)
+
+pub ruleset array-laws = (matrix-given, matrix-default, bias-given, bias-default, grid-given, grid-default)
+
+module _ (t : List ℕ) (at n : ℕ) (l : List ℕ) (e : length l ≡ n) (i : ℕ) where
+  pub words-turn : i < length l → (v : ℕ) → v ≡ u32At t (at + 4 * i) → sets l i (drop i (wordsAt t at n)) ≡ wordsAt t at n → sets (set l i v) (i + 1) (drop (i + 1) (wordsAt t at n)) ≡ wordsAt t at n
+  words-turn h v f w = fill-turns (wordsAt t at n) l i v (omega (arith, words-length t at n)) (f ∙ sym (word-at t at n i (omega arith))) w
+
+  pub words-end : length l ≤ i → sets l i (drop i (wordsAt t at n)) ≡ wordsAt t at n → l ≡ wordsAt t at n
+  words-end h w = fill-ends (wordsAt t at n) l i (omega (arith, words-length t at n)) w
+
+  pub bytes-turn : i < length l → (v : ℕ) → v ≡ getD t (at + i) 0 → sets l i (drop i (bytesAt t at n)) ≡ bytesAt t at n → sets (set l i v) (i + 1) (drop (i + 1) (bytesAt t at n)) ≡ bytesAt t at n
+  bytes-turn h v f w = fill-turns (bytesAt t at n) l i v (omega (arith, bytes-length t at n)) (f ∙ sym (byte-at t at n i (omega arith))) w
+
+  pub bytes-end : length l ≤ i → sets l i (drop i (bytesAt t at n)) ≡ bytesAt t at n → l ≡ bytesAt t at n
+  bytes-end h w = fill-ends (bytesAt t at n) l i (omega (arith, bytes-length t at n)) w
+
+pub words-begin : (t : List ℕ) (at : ℕ) (l : List ℕ) → sets l 0 (drop 0 (wordsAt t at (length l))) ≡ wordsAt t at (length l)
+words-begin t at l = fill-begins (wordsAt t at (length l)) l (sym (words-length t at (length l)))
+
+pub bytes-begin : (t : List ℕ) (at : ℕ) (l : List ℕ) → sets l 0 (drop 0 (bytesAt t at (length l))) ≡ bytesAt t at (length l)
+bytes-begin t at l = fill-begins (bytesAt t at (length l)) l (sym (bytes-length t at (length l)))

@@ -1,0 +1,50 @@
+-- One call, one answer: a result is determined by the numbers that it stands for, and so are the slots that it leaves.
+-- Assumes nothing.
+use Prim.Native.Nat.{ℕ}
+use mathlib.Core.Path.{_≡_, refl, sym, ap, _∙_}
+use mathlib.Core.List.{List}
+use Rattle.fields.proofs.Numbers.{nameOf, named}
+use Rattle.curve.specs.declared.Walk.{Walk}
+use Rattle.lut.specs.Answer.{Abm, State, abm, absent, refused, Answer, stateFrom, paper}
+use Rattle.lut.specs.Lut.{Said}
+use Rattle.lut.specs.declared.abm.AbmTable.{AbmTable}
+use Rattle.lut.specs.declared.abm.Lut.{Lut}
+use Rattle.lut.specs.declared.abm.LutAnswer.{LutAnswer}
+
+-- the result that stands for an answer
+abbrev tableTo : Abm → AbmTable
+tableTo f =
+    record {
+      «to_pcs» = f .toPcs;
+      inputs = f .inputs;
+      outputs = f .outputs;
+      «clut_start» = record { 0 = f .start };
+      «clut_length» = f .bytes;
+      «entry_size» = f .size;
+      «a_curves» = f .a;
+      «m_curves» = f .m;
+      «b_curves» = f .b;
+    }
+
+abbrev answerTo : State → LutAnswer
+answerTo (abm f) = LutAnswer.Abm (tableTo f)
+answerTo absent = LutAnswer.Absent
+answerTo (refused n) = LutAnswer.Refused (nameOf n)
+
+back : (a : LutAnswer) → answerTo (stateFrom a) ≡ a
+back (LutAnswer.Abm t) = refl
+back LutAnswer.Absent = refl
+back (LutAnswer.Refused why) = ap LutAnswer.Refused (named why)
+
+abbrev lutTo : Answer → Lut
+lutTo a = record { answer = answerTo (a .state); grid = a .grid; matrix = a .matrix; bias = a .bias }
+
+whole : (l : Lut) → lutTo (paper l) ≡ l
+whole l = rw (back (l .answer))
+
+pub unique : (a : Answer) (r s : Lut) → paper r ≡ a → paper s ≡ a → r ≡ s
+unique a r s p q = sym (whole r) ∙ ap lutTo (p ∙ sym q) ∙ whole s
+
+-- two calls of which the same is said have the same result and leave the same slots
+pub said-once : {walk : Walk} {limit : ℕ} {t : List ℕ} {a : Answer} {r q : Lut} {before after other : List ℕ} → Said walk limit t a r before after → Said walk limit t a q before other → (r ≡ q) × (after ≡ other)
+said-once {a = a} {r = r} {q = q} x y = (unique a r q (x .answer-is) (y .answer-is), x .left-is ∙ sym (y .left-is))

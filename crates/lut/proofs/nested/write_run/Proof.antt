@@ -1,0 +1,38 @@
+-- `lut::nested::write_run` meets its contract: what is left to write makes of the slots what the whole run makes of them.
+-- Assumes nothing.
+use Prim.Native.Nat.{_+_, _-_, _*_, _^_, _≤_, _<_}
+use native.Mathlib.Omega.{arith}
+use mathlib.Core.Path.{_≡_}
+use lib.ListN.{length}
+use borrow.Author.Needs.{needs}
+use Rattle.run.proofs.Writing.{Writing, begins, ends}
+use Rattle.lut.proofs.RunLaws.{near, write-turn, write-never}
+use Rattle.lut.proofs.nested.write_run.Statement.{statement}
+use Rattle.lut.proofs.nested.write_run.Tie as tie
+
+abbrev Inv-loop : tie.InvT-loop
+Inv-loop tag n limit walk slots₀ next₀ i₀ slots next i = Writing walk limit tag (next₀ .0) n slots₀ slots (next .0) i
+
+abbrev μ-loop : tie.MeasureT-loop
+μ-loop tag n limit walk slots₀ next₀ i₀ slots next i = n - i
+
+pub write-run-spec : {M : Type 1} → statement M
+write-run-spec =
+    tie.close
+    (tie.spec
+    Inv-loop
+    μ-loop
+    (λ c. search (needs, begins))
+    (λ c κs. search needs)
+    (λ c. search needs)
+    (λ c. search needs)
+    (λ c. absurd (search (needs, write-never)))
+    (λ c. search needs)
+    (λ c. search needs)
+    (λ c κs. search needs)
+    (λ c κs. search (needs, near))
+    (λ c. search needs)
+    (λ c. search needs)
+    (λ c. search (needs, write-turn))
+    (λ c. search needs)
+    (λ c. search (needs, ends)))

@@ -1,0 +1,22 @@
+-- `lut::read_kind` meets its contract: each way out is a law of `kindOf`.
+-- Assumes nothing.
+use Rattle.lut.proofs.Laws.{kind-mab, kind-mba, kind-other}
+use borrow.Author.Needs.{needs}
+use Rattle.lut.proofs.read_kind.Statement.{statement}
+use Rattle.lut.proofs.read_kind.Tie as tie
+
+pub read-kind-spec : {M : Type 1} → statement M
+read-kind-spec =
+    tie.close
+    (tie.spec
+    (λ c κs. search needs)
+    (λ c. search needs)
+    (λ c κs. search needs)
+    (λ c. search needs)
+    (λ c κs. search needs)
+    (λ c κs. search needs)
+    (λ c. search needs)
+    (λ c. search (needs, kind-mab, kind-mba))
+    (λ c. search needs)
+    (λ c. search (needs, kind-mab, kind-mba))
+    (λ c. search (needs, kind-mab, kind-mba, kind-other)))

@@ -1,0 +1,63 @@
+-- `mAB ` and `mBA `: what each call must answer.
+use Prim.Native.Nat.{ℕ, _/_}
+use mathlib.Core.Bool.{cond, _&&_}
+use mathlib.Core.List.{List, []}
+use lib.Dec.{ltb, eqb}
+use Rattle.clut.specs.Clut.{Seen, is, no, clutOf}
+use Rattle.clut.specs.Table.{Table, lengthOf}
+use Rattle.curve.specs.declared.Walk.{Walk}
+use Rattle.run.specs.Run.{recordWords}
+use Rattle.lut.specs.Answer.{abm, Answer, none, refuse, orRefused}
+use Rattle.lut.specs.Layout.{toPcs, inputs, outputs, clutOffset, aCurves, mCurves, bCurves, planOf, recordsNeeded, gridOf, matrixOf, biasOf}
+use Rattle.lut.specs.Parts.{runsJudged, matrixJudged}
+
+-- the colour table; one that is not there has no data, at 0
+abbrev pub noTable : Table
+noTable = record { grid = []; outputs = 0; start = 0; size = 0 }
+
+unfoldable pub tableOf : List ℕ → Seen
+tableOf t = cond (eqb (clutOffset t) 0) (is noTable) (clutOf t (clutOffset t) (inputs t) (outputs t))
+
+-- the answer for a tag that is good, with where the data of its colour table lie and the bytes of an entry
+unfoldable pub valueFrom : List ℕ → ℕ → ℕ → ℕ → Answer
+valueFrom t start bytes size =
+    record {
+      state =
+          abm
+          record {
+            toPcs = toPcs t;
+            inputs = inputs t;
+            outputs = outputs t;
+            start = start;
+            bytes = bytes;
+            size = size;
+            a = aCurves t;
+            m = mCurves t;
+            b = bCurves t;
+          };
+      grid = gridOf t;
+      matrix = matrixOf t;
+      bias = biasOf t;
+    }
+
+-- what is answered once the runs are good, with so many words lent
+unfoldable pub recordedOf : List ℕ → ℕ → ℕ → ℕ → ℕ → Answer
+recordedOf t words start bytes size =
+    cond (ltb (words / recordWords) (recordsNeeded t)) (refuse 14) (valueFrom t start bytes size)
+
+-- once the colour table is good
+unfoldable pub judgedOf : Walk → ℕ → List ℕ → ℕ → ℕ → ℕ → ℕ → Answer
+judgedOf walk limit t words start bytes size =
+    orRefused (runsJudged walk limit t (planOf t)) (recordedOf t words start bytes size)
+
+-- and of a colour table
+abbrev pub withTable : Walk → ℕ → List ℕ → ℕ → Seen → Answer
+withTable walk limit t words (is table) = judgedOf walk limit t words (table .start) (lengthOf table) (table .size)
+withTable walk limit t words (no n) = refuse n
+
+-- a tag t
+unfoldable pub abmOf : Walk → ℕ → List ℕ → ℕ → Answer
+abmOf walk limit t words =
+    cond (ltb 4 (inputs t) && ltb 4 (outputs t)) none (
+    orRefused (matrixJudged t) (
+    withTable walk limit t words (tableOf t)))

@@ -1,0 +1,79 @@
+-- What the reader of lookup tables answers, in numbers.
+use Prim.Native.Nat.{ℕ}
+use mathlib.Core.Bool.{Bool}
+use mathlib.Core.List.{List, _++_}
+use lib.ListN.{length, drop, replicate}
+use Rattle.fields.specs.Refusals.{numberOf}
+use Rattle.lut.specs.Verdict.{Judged, good, bad}
+use Rattle.lut.specs.declared.abm.AbmTable.{AbmTable}
+use Rattle.lut.specs.declared.abm.LutAnswer.{LutAnswer}
+use Rattle.lut.specs.declared.abm.Lut.{Lut}
+
+-- the numbers of an `mAB ` or `mBA ` tag: direction, channels, where the colour table's data lie, the bytes of an entry, and the curves
+-- of each run
+pub record Abm : Type 0 where
+  pub toPcs : Bool
+  pub inputs : ℕ
+  pub outputs : ℕ
+  pub start : ℕ
+  pub bytes : ℕ
+  pub size : ℕ
+  pub a : ℕ
+  pub m : ℕ
+  pub b : ℕ
+
+pub data State : Type 0 where
+  abm : Abm → State
+  absent : State
+  refused : ℕ → State
+
+-- the arrays beside it: sixteen grid bytes, nine matrix and three bias numbers
+pub record Answer : Type 0 where
+  pub state : State
+  pub grid : List ℕ
+  pub matrix : List ℕ
+  pub bias : List ℕ
+
+-- on absence and refusal all of them are zeros
+abbrev pub alone : State → Answer
+alone s = record { state = s; grid = replicate 16 0; matrix = replicate 9 0; bias = replicate 3 0 }
+
+abbrev pub none : Answer
+none = alone absent
+
+abbrev pub refuse : ℕ → Answer
+refuse n = alone (refused n)
+
+-- the numbers that a result stands for
+abbrev pub tableFrom : AbmTable → Abm
+tableFrom t =
+    record {
+      toPcs = t .«to_pcs»;
+      inputs = t .inputs;
+      outputs = t .outputs;
+      start = t .«clut_start» .0;
+      bytes = t .«clut_length»;
+      size = t .«entry_size»;
+      a = t .«a_curves»;
+      m = t .«m_curves»;
+      b = t .«b_curves»;
+    }
+
+abbrev pub stateFrom : LutAnswer → State
+stateFrom (LutAnswer.Abm t) = abm (tableFrom t)
+stateFrom LutAnswer.Absent = absent
+stateFrom (LutAnswer.Refused why) = refused (numberOf why)
+
+abbrev pub paper : Lut → Answer
+paper l = record { state = stateFrom (l .answer); grid = l .grid; matrix = l .matrix; bias = l .bias }
+
+-- a part that is refused refuses the tag
+abbrev pub orRefused : Judged → Answer → Answer
+orRefused good a = a
+orRefused (bad n) a = refuse n
+
+-- what is left in lent slots: the records of a value in front, and everything else as it was
+abbrev pub leftBy : State → List ℕ → List ℕ → List ℕ
+leftBy (abm t) records slots = records ++ drop (length records) slots
+leftBy absent records slots = slots
+leftBy (refused n) records slots = slots

@@ -1,0 +1,60 @@
+-- The worked cases of `mAB `: calls of the reader at offset 0 under the house default, and what they answer and leave.
+use Prim.Native.Nat.{ℕ, _*_}
+use mathlib.Core.Path.{_≡_}
+use mathlib.Core.Bool.{true}
+use mathlib.Core.List.{List, [], _∷_, _++_}
+use lib.ListN.{length, replicate}
+use Rattle.fields.specs.House.{houseEntries}
+use Rattle.curve.specs.declared.Walk.{Walk}
+use Rattle.curve.specs.declared.Walk.the-variants.{Crate, Book}
+use Rattle.run.specs.Run.{recordWords, recordsOf}
+use Rattle.lut.specs.Answer.{State, abm, refused, leftBy}
+use Rattle.lut.specs.Layout.{planOf}
+use Rattle.lut.specs.Lut.{lutOf, tagOf}
+use Rattle.lut.specs.Parts.{curvesOf}
+
+-- walk, profile and size, the lent words, and the answer and the words as they are left
+pub data Case : Type 0 where
+  gives : Walk → List ℕ → ℕ → List ℕ → State → List ℕ → Case
+
+unfoldable pub Holds : Case → Type 0
+Holds (gives walk profile size slots s left) =
+    (lutOf walk houseEntries profile 0 size (length slots) .state ≡ s)
+    × (leftBy s (recordsOf (curvesOf walk houseEntries (tagOf profile 0 size) (planOf (tagOf profile 0 size)))) slots ≡ left)
+
+unfoldable pub All : List Case → Type 0
+All [] = Unit
+All (c ∷ cs) = Holds c × All cs
+
+-- three channels on each side, only B curves, at 32: empty, empty at 44, a function of type 0 at 56
+abbrev pub tag : List ℕ
+tag =
+    (0x6d ∷ 0x41 ∷ 0x42 ∷ 0x20 ∷ 0 ∷ 0 ∷ 0 ∷ 0 ∷ 3 ∷ 3 ∷ 0 ∷ 0 ∷ 0 ∷ 0 ∷ 0 ∷ 32 ∷ [])
+    ++ (0 ∷ 0 ∷ 0 ∷ 0 ∷ 0 ∷ 0 ∷ 0 ∷ 0 ∷ 0 ∷ 0 ∷ 0 ∷ 0 ∷ 0 ∷ 0 ∷ 0 ∷ 0 ∷ [])
+    ++ (0x63 ∷ 0x75 ∷ 0x72 ∷ 0x76 ∷ 0 ∷ 0 ∷ 0 ∷ 0 ∷ 0 ∷ 0 ∷ 0 ∷ 0 ∷ [])
+    ++ (0x63 ∷ 0x75 ∷ 0x72 ∷ 0x76 ∷ 0 ∷ 0 ∷ 0 ∷ 0 ∷ 0 ∷ 0 ∷ 0 ∷ 0 ∷ [])
+    ++ (0x70 ∷ 0x61 ∷ 0x72 ∷ 0x61 ∷ 0 ∷ 0 ∷ 0 ∷ 0 ∷ 0 ∷ 0 ∷ 0 ∷ 0 ∷ 0 ∷ 1 ∷ 0 ∷ 0 ∷ [])
+
+-- three B curves, no colour table
+abbrev pub threeB : State
+threeB = abm record { toPcs = true; inputs = 3; outputs = 3; start = 0; bytes = 0; size = 0; a = 0; m = 0; b = 3 }
+
+-- so many slots, each word 7
+abbrev pub slots : ℕ → List ℕ
+slots n = replicate (n * recordWords) 7
+
+-- the records of an empty curve, and of a function of type 0 with 65536
+abbrev pub emptyAt : ℕ → List ℕ
+emptyAt start = 0 ∷ start ∷ 0 ∷ 0 ∷ 0 ∷ 0 ∷ 0 ∷ 0 ∷ 0 ∷ 0 ∷ []
+
+abbrev pub straightAt : ℕ → List ℕ
+straightAt start = 2 ∷ start ∷ 1 ∷ 65536 ∷ 0 ∷ 0 ∷ 0 ∷ 0 ∷ 0 ∷ 0 ∷ []
+
+abbrev pub cases : List Case
+cases =
+    gives Crate tag 72 (slots 3) threeB (emptyAt 44 ++ emptyAt 44 ++ emptyAt 44) ∷
+    gives Book tag 72 (slots 3) threeB (emptyAt 44 ++ emptyAt 56 ++ straightAt 68) ∷
+    gives Book tag 72 (slots 4) threeB (emptyAt 44 ++ emptyAt 56 ++ straightAt 68 ++ slots 1) ∷
+    gives Crate tag 72 (slots 2) (refused 14) (slots 2) ∷
+    gives Book tag 72 (slots 2) (refused 14) (slots 2) ∷
+    []

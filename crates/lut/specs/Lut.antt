@@ -1,0 +1,44 @@
+-- Lookup tables: what each call must answer, and what it leaves in the lent slots.
+use Prim.Native.Nat.{ℕ, _+_}
+use mathlib.Core.Path.{_≡_}
+use mathlib.Core.Bool.{cond}
+use mathlib.Core.List.{List}
+use lib.Dec.{ltb, eqb}
+use lib.ListN.{length, take, drop}
+use Rattle.fields.specs.Bytes.{u32At}
+use Rattle.fields.specs.House.{tagSize}
+use Rattle.fields.specs.Tag.{signatureOf}
+use Rattle.fields.specs.declared.Kind.the-variants.{Mab, Mba}
+use Rattle.curve.specs.declared.Walk.{Walk}
+use Rattle.run.specs.Run.{recordsOf}
+use Rattle.lut.specs.Abm.{abmOf}
+use Rattle.lut.specs.Answer.{Answer, refuse, paper, leftBy}
+use Rattle.lut.specs.Layout.{planOf}
+use Rattle.lut.specs.Parts.{curvesOf}
+use Rattle.lut.specs.declared.abm.Lut.{Lut}
+
+-- a size of 0 counts as the shortest tag's
+abbrev pub sizeOf : ℕ → ℕ
+sizeOf size = cond (eqb size 0) tagSize size
+
+abbrev pub tagOf : List ℕ → ℕ → ℕ → List ℕ
+tagOf profile entry size = take (sizeOf size) (drop entry profile)
+
+-- by the type of the tag t
+unfoldable pub kindOf : Walk → ℕ → List ℕ → ℕ → Answer
+kindOf walk limit t words =
+    cond (eqb (u32At t 0) (signatureOf Mab)) (abmOf walk limit t words) (
+    cond (eqb (u32At t 0) (signatureOf Mba)) (abmOf walk limit t words) (
+    refuse 3))
+
+-- the tag of a profile, with so many words lent
+unfoldable pub lutOf : Walk → ℕ → List ℕ → ℕ → ℕ → ℕ → Answer
+lutOf walk limit profile entry size words =
+    cond (ltb (length profile) (entry + sizeOf size)) (refuse 1) (
+    cond (ltb (sizeOf size) 48) (refuse 2) (
+    kindOf walk limit (tagOf profile entry size) words))
+
+-- what a call answers, and what it leaves of the lent slots
+pub record Said (walk : Walk) (limit : ℕ) (t : List ℕ) (answer : Answer) (r : Lut) (before after : List ℕ) : Type 0 where
+  pub answer-is : paper r ≡ answer
+  pub left-is : after ≡ leftBy (answer .state) (recordsOf (curvesOf walk limit t (planOf t))) before

@@ -1,0 +1,34 @@
+-- The matrix and the runs of an `mAB ` or `mBA ` tag.
+use Prim.Native.Nat.{ℕ, _+_}
+use mathlib.Core.Bool.{cond}
+use mathlib.Core.List.{List, _++_}
+use lib.Dec.{ltb, eqb}
+use lib.ListN.{length}
+use Rattle.curve.specs.declared.Walk.{Walk}
+use Rattle.run.specs.Run.{Placed, Ran, runAt}
+use Rattle.lut.specs.Layout.{matrixOffset}
+use Rattle.lut.specs.Verdict.{Judged, good, bad, ended, andThen}
+use Rattle.lut.specs.declared.abm.Plan.{Plan}
+
+-- the three runs, each by itself
+abbrev pub runA : Walk → ℕ → List ℕ → Plan → Ran
+runA walk limit t p = runAt walk limit t (p .a) (p .na)
+
+abbrev pub runM : Walk → ℕ → List ℕ → Plan → Ran
+runM walk limit t p = runAt walk limit t (p .m) (p .nm)
+
+abbrev pub runB : Walk → ℕ → List ℕ → Plan → Ran
+runB walk limit t p = runAt walk limit t (p .b) (p .nb)
+
+-- they are judged one after the other
+unfoldable pub runsJudged : Walk → ℕ → List ℕ → Plan → Judged
+runsJudged walk limit t p =
+    andThen (ended (runA walk limit t p .end)) (andThen (ended (runM walk limit t p .end)) (ended (runB walk limit t p .end)))
+
+-- their curves follow each other
+unfoldable pub curvesOf : Walk → ℕ → List ℕ → Plan → List Placed
+curvesOf walk limit t p = runA walk limit t p .curves ++ runM walk limit t p .curves ++ runB walk limit t p .curves
+
+-- a matrix has 48 bytes
+unfoldable pub matrixJudged : List ℕ → Judged
+matrixJudged t = cond (eqb (matrixOffset t) 0) good (cond (ltb (length t) (matrixOffset t + 48)) (bad 2) good)

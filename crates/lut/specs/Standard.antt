@@ -1,0 +1,42 @@
+-- What the standard calls a well-formed lutAToBType or lutBToAType, its reserved bytes aside, and what this library asks besides.
+use Prim.Native.Nat.{ℕ, _+_, _≤_}
+use mathlib.Core.Path.{_≡_}
+use mathlib.Core.Bool.{false, _&&_}
+use mathlib.Core.List.{List, [], _∷_}
+use mathlib.Core.Logic.{_⊎_}
+use lib.Dec.{ltb}
+use lib.ListN.{length, drop}
+use Rattle.clut.specs.Standard.{Laid as TableLaid, Within as TableWithin}
+use Rattle.clut.specs.Table.{Table}
+use Rattle.curve.specs.Standard.{Laid, Within}
+use Rattle.run.specs.Run.{Placed, raised, endOf}
+use Rattle.lut.specs.Abm.{noTable}
+use Rattle.lut.specs.Layout.{inputs, outputs, aOffset, mOffset, bOffset, matrixOffset, clutOffset, aCurves, mCurves, bCurves}
+
+-- curves from an offset on, each laid out as its type says, and each at the next multiple of 4 behind the one before
+unfoldable pub Row : ℕ → List ℕ → ℕ → List Placed → Type 0
+Row limit t at [] = Unit
+Row limit t at (c ∷ cs) = (c .at ≡ at) × Laid (drop at t) (c .shape) × Within limit (c .shape) × Row limit t (raised (endOf c)) cs
+
+-- a colour table that is there
+pub record TableThere (t : List ℕ) (table : Table) : Type 0 where
+  pub there : clutOffset t ≡ 0 → ⊥
+  pub laid : TableLaid t (clutOffset t) (inputs t) (outputs t) table
+  pub within : TableWithin table
+
+pub record TableNot (t : List ℕ) (table : Table) : Type 0 where
+  pub not-there : clutOffset t ≡ 0
+  pub none : table ≡ noTable
+
+-- every element that is there lies in the tag as its layout says; a run has a curve for each channel of its side. Besides, one side
+-- has at most four channels
+pub record LaidOut (limit : ℕ) (t : List ℕ) (table : Table) (a m b : List Placed) : Type 0 where
+  pub few-channels : ltb 4 (inputs t) && ltb 4 (outputs t) ≡ false
+  pub matrix : (matrixOffset t ≡ 0) ⊎ (matrixOffset t + 48 ≤ length t)
+  pub clut : TableNot t table ⊎ TableThere t table
+  pub a-row : Row limit t (aOffset t) a
+  pub a-count : length a ≡ aCurves t
+  pub m-row : Row limit t (mOffset t) m
+  pub m-count : length m ≡ mCurves t
+  pub b-row : Row limit t (bOffset t) b
+  pub b-count : length b ≡ bCurves t

@@ -1,0 +1,389 @@
+// `mAB ` and `mBA `: read_lut_abm_type of moxcms.
+use crate::nested;
+use crate::nested::RECORD_WORDS;
+use crate::nested::Verdict;
+use clut::ClutAnswer;
+use clut::ColourTable;
+use curve::Walk;
+use fields::InTag;
+use fields::Kind;
+use fields::Refusal;
+ghost use mathlib.Core.Path.{_≡_};
+ghost use mathlib.Core.Bool.{_&&_};
+ghost use mathlib.Core.List.{_++_};
+ghost use Prim.Native.Nat.{_+_, _*_, _^_, _≤_, _<_};
+ghost use lib.Dec.{ltb};
+ghost use lib.ListN.{length, drop};
+ghost use Rattle.clut.specs.Answer.{paper as Clut·paper, toldOf};
+ghost use Rattle.fields.specs.Bytes.{bytesAt, wordsAt};
+ghost use Rattle.fields.specs.Refusals.{numberOf};
+ghost use Rattle.run.specs.Run.{recordWords, recordsOf};
+ghost use Rattle.lut.specs.Abm.{tableOf, valueFrom, recordedOf, judgedOf, withTable, abmOf};
+ghost use Rattle.lut.specs.Lut.{Said};
+ghost use Rattle.lut.specs.Parts.{runsJudged, curvesOf, matrixJudged};
+ghost use Rattle.lut.specs.Answer.{none, refuse, paper};
+ghost use Rattle.lut.specs.Layout.{toPcs, inputs, outputs, deviceChannels, spaceChannels, Few, present, aCurves, mCurves, bCurves, Planned, gridOf, matrixOf, biasOf};
+ghost use Rattle.lut.specs.Verdict.{good, judgedFrom};
+
+// What an `mAB ` or `mBA ` tag says: its direction and channels, where the data of its colour table lie and the bytes of an entry (zeros
+// without one), and how many curves each run has. The records of the curves stand in the lent slots.
+pub struct AbmTable {
+    pub to_pcs: bool,
+    pub inputs: u8,
+    pub outputs: u8,
+    pub clut_start: InTag,
+    pub clut_length: u32,
+    pub entry_size: u8,
+    pub a_curves: u32,
+    pub m_curves: u32,
+    pub b_curves: u32,
+}
+
+pub enum LutAnswer {
+    Abm(AbmTable),
+    Absent,
+    Refused(Refusal),
+}
+
+// The answer, and beside it what is an array: the grid bytes as they stand, and the matrix and bias numbers, signed words in two's
+// complement. All of them are zeros unless the answer is a value.
+pub struct Lut {
+    pub answer: LutAnswer,
+    pub grid: [u8; 16],
+    pub matrix: [u32; 9],
+    pub bias: [u32; 3],
+}
+
+pub(crate) fn absent() -> Lut
+    ensures { λ r. ⌜ paper r ≡ none ⌝ }
+{
+    Lut {
+        answer: LutAnswer::Absent,
+        grid: [0; 16],
+        matrix: [0; 9],
+        bias: [0; 3],
+    }
+}
+
+pub(crate) fn refused(why: Refusal) -> Lut
+    ensures { λ r. ⌜ paper r ≡ refuse (numberOf why) ⌝ }
+{
+    Lut {
+        answer: LutAnswer::Refused(why),
+        grid: [0; 16],
+        matrix: [0; 9],
+        bias: [0; 3],
+    }
+}
+
+// Whether the tag leads towards the connection space.
+fn to_pcs(tag: &[u8]) -> bool
+    ensures { λ r. ⌜ r ≡ toPcs (now (tag .entry)) ⌝ }
+{
+    fields::u32_at(tag, InTag(0)) == Kind::MAB
+}
+
+// The channels on the device's side, and on the connection space's.
+fn device_channels(tag: &[u8]) -> u8
+    ensures { λ r. ⌜ r ≡ deviceChannels (now (tag .entry)) ⌝ }
+{
+    if to_pcs(tag) {
+        fields::u8_at(tag, InTag(8))
+    } else {
+        fields::u8_at(tag, InTag(9))
+    }
+}
+
+fn space_channels(tag: &[u8]) -> u8
+    ensures { λ r. ⌜ r ≡ spaceChannels (now (tag .entry)) ⌝ }
+{
+    if to_pcs(tag) {
+        fields::u8_at(tag, InTag(9))
+    } else {
+        fields::u8_at(tag, InTag(8))
+    }
+}
+
+// The curves of a run: none where its offset is 0.
+fn run_length(offset: u32, channels: u8) -> u32
+    ensures { λ r. ⌜ Few (present offset channels) r ⌝ }
+{
+    if offset == 0 { 0 } else { channels as u32 }
+}
+
+fn a_curves(tag: &[u8]) -> u32
+    ensures { λ r. ⌜ Few (aCurves (now (tag .entry))) r ⌝ }
+{
+    let offset = fields::u32_at(tag, InTag(28));
+    run_length(offset, device_channels(tag))
+}
+
+fn m_curves(tag: &[u8]) -> u32
+    ensures { λ r. ⌜ Few (mCurves (now (tag .entry))) r ⌝ }
+{
+    let offset = fields::u32_at(tag, InTag(20));
+    run_length(offset, space_channels(tag))
+}
+
+fn b_curves(tag: &[u8]) -> u32
+    ensures { λ r. ⌜ Few (bCurves (now (tag .entry))) r ⌝ }
+{
+    let offset = fields::u32_at(tag, InTag(12));
+    run_length(offset, space_channels(tag))
+}
+
+// Where the runs A, M and B start, and how many curves each has.
+struct Plan {
+    a: u32,
+    na: u32,
+    m: u32,
+    nm: u32,
+    b: u32,
+    nb: u32,
+}
+
+fn find_runs(tag: &[u8]) -> Plan
+    ensures { λ r. ⌜ Planned (now (tag .entry)) r ⌝ }
+{
+    Plan {
+        a: fields::u32_at(tag, InTag(28)),
+        na: a_curves(tag),
+        m: fields::u32_at(tag, InTag(20)),
+        nm: m_curves(tag),
+        b: fields::u32_at(tag, InTag(12)),
+        nb: b_curves(tag),
+    }
+}
+
+// Judges the three runs in order.
+fn check_runs(tag: &[u8], p: Plan, limit: u64, walk: Walk) -> Verdict
+    requires { ⌜ length (now tag) < 2 ^ 32 ⌝ }
+    ensures { λ r. ⌜ judgedFrom r ≡ runsJudged walk limit (now (tag .entry)) p ⌝ }
+{
+    let a = nested::check_run(tag, InTag(p.a as u64), p.na, limit, walk);
+    let Verdict::Good = a else {
+        return a;
+    };
+    let m = nested::check_run(tag, InTag(p.m as u64), p.nm, limit, walk);
+    let Verdict::Good = m else {
+        return m;
+    };
+    nested::check_run(tag, InTag(p.b as u64), p.nb, limit, walk)
+}
+
+// Writes the records of the three runs, which were judged good: each from the slot where the one before ended.
+fn write_runs(tag: &[u8], p: Plan, limit: u64, walk: Walk, slots: &mut [u32])
+    requires { ⌜ (length (now tag) < 2 ^ 32) × (runsJudged walk limit (now tag) p ≡ good) × ((p .na + p .nm + p .nb) * recordWords ≤ length (now slots)) ⌝ }
+    ensures { λ _. ⌜ now (slots .exit) ≡ recordsOf (curvesOf walk limit (now (tag .entry)) p) ++ drop ((p .na + p .nm + p .nb) * recordWords) (now (slots .entry)) ⌝ }
+{
+    let na = p.na as usize;
+    let nm = p.nm as usize;
+    nested::write_run(tag, InTag(p.a as u64), p.na, limit, walk, slots);
+    let first_m = na * RECORD_WORDS;
+    nested::write_run(
+        tag,
+        InTag(p.m as u64),
+        p.nm,
+        limit,
+        walk,
+        &mut slots[first_m..],
+    );
+    let first_b = (na + nm) * RECORD_WORDS;
+    nested::write_run(
+        tag,
+        InTag(p.b as u64),
+        p.nb,
+        limit,
+        walk,
+        &mut slots[first_b..],
+    );
+}
+
+// A matrix has 48 bytes.
+fn check_matrix(tag: &[u8]) -> Verdict
+    ensures { λ r. ⌜ judgedFrom r ≡ matrixJudged (now (tag .entry)) ⌝ }
+{
+    let at = fields::u32_at(tag, InTag(16));
+    if at == 0 {
+        return Verdict::Good;
+    }
+    if (tag.len() as u64) < at as u64 + 48 {
+        return Verdict::Refused(Refusal::TagTooShort);
+    }
+    Verdict::Good
+}
+
+// The colour table; one that is not there has no data, at 0.
+fn find_table(tag: &[u8]) -> ClutAnswer
+    ensures { λ r. ⌜ Clut·paper r ≡ toldOf (tableOf (now (tag .entry))) ⌝ }
+{
+    let at = fields::u32_at(tag, InTag(24));
+    if at == 0 {
+        return ClutAnswer::Value(ColourTable {
+            points: 1,
+            start: InTag(0),
+            length: 0,
+            entry_size: 0,
+        });
+    }
+    let inputs = fields::u8_at(tag, InTag(8));
+    let outputs = fields::u8_at(tag, InTag(9));
+    clut::read_clut(tag, InTag(at as u64), inputs, outputs)
+}
+
+// Fills `out` with the 32-bit numbers from `at` on.
+fn fill_words(tag: &[u8], at: u64, out: &mut [u32])
+    requires { ⌜ (at < 2 ^ 33) × (length (now out) < 2 ^ 32) ⌝ }
+    ensures { λ _. ⌜ now (out .exit) ≡ wordsAt (now (tag .entry)) at (length (now (out .entry))) ⌝ }
+{
+    let mut i = 0;
+    while i < out.len() {
+        out[i] = fields::u32_at(tag, InTag(at + 4 * (i as u64)));
+        i += 1;
+    }
+}
+
+// Fills `out` with the bytes from `at` on.
+fn fill_bytes(tag: &[u8], at: u64, out: &mut [u8])
+    requires { ⌜ (at < 2 ^ 33) × (length (now out) < 2 ^ 32) ⌝ }
+    ensures { λ _. ⌜ now (out .exit) ≡ bytesAt (now (tag .entry)) at (length (now (out .entry))) ⌝ }
+{
+    let mut i = 0;
+    while i < out.len() {
+        out[i] = fields::u8_at(tag, InTag(at + i as u64));
+        i += 1;
+    }
+}
+
+// The matrix; one that is not there is the identity.
+fn matrix(tag: &[u8]) -> [u32; 9]
+    ensures { λ r. ⌜ r ≡ matrixOf (now (tag .entry)) ⌝ }
+{
+    let at = fields::u32_at(tag, InTag(16));
+    let mut words = [65536u32, 0, 0, 0, 65536, 0, 0, 0, 65536];
+    if at != 0 {
+        fill_words(tag, at as u64, &mut words);
+    }
+    words
+}
+
+fn bias(tag: &[u8]) -> [u32; 3]
+    ensures { λ r. ⌜ r ≡ biasOf (now (tag .entry)) ⌝ }
+{
+    let at = fields::u32_at(tag, InTag(16));
+    let mut words = [0u32; 3];
+    if at != 0 {
+        fill_words(tag, at as u64 + 36, &mut words);
+    }
+    words
+}
+
+// The sixteen grid bytes, zeros without a colour table.
+fn grid(tag: &[u8]) -> [u8; 16]
+    ensures { λ r. ⌜ r ≡ gridOf (now (tag .entry)) ⌝ }
+{
+    let at = fields::u32_at(tag, InTag(24));
+    let mut bytes = [0u8; 16];
+    if at != 0 {
+        fill_bytes(tag, at as u64, &mut bytes);
+    }
+    bytes
+}
+
+// The answer for a tag that is good, with its runs and its colour table.
+fn value(tag: &[u8], p: Plan, table: ColourTable) -> Lut
+    requires { ⌜ Planned (now tag) p ⌝ }
+    ensures { λ r. ⌜ paper r ≡ valueFrom (now (tag .entry)) (table .start .0) (table .length) (table .«entry_size») ⌝ }
+{
+    let start = table.start;
+    let answer = LutAnswer::Abm(AbmTable {
+        to_pcs: to_pcs(tag),
+        inputs: fields::u8_at(tag, InTag(8)),
+        outputs: fields::u8_at(tag, InTag(9)),
+        clut_start: start,
+        clut_length: table.length,
+        entry_size: table.entry_size,
+        a_curves: p.na,
+        m_curves: p.nm,
+        b_curves: p.nb,
+    });
+    let grid = grid(tag);
+    let matrix = matrix(tag);
+    let bias = bias(tag);
+    Lut {
+        answer,
+        grid,
+        matrix,
+        bias,
+    }
+}
+
+// Whether both sides have more than four channels.
+fn too_many_channels(tag: &[u8]) -> bool
+    ensures { λ r. ⌜ r ≡ ltb 4 (inputs (now (tag .entry))) && ltb 4 (outputs (now (tag .entry))) ⌝ }
+{
+    if fields::u8_at(tag, InTag(8)) <= 4 {
+        return false;
+    }
+    4 < fields::u8_at(tag, InTag(9))
+}
+
+// Writes the records of a tag whose runs are good, if the slots suffice, and answers.
+fn write_records(
+    tag: &[u8],
+    p: Plan,
+    table: ColourTable,
+    limit: u64,
+    walk: Walk,
+    slots: &mut [u32],
+) -> Lut
+    requires { ⌜ (length (now tag) < 2 ^ 32) × Planned (now tag) p × (runsJudged walk limit (now tag) p ≡ good) ⌝ }
+    ensures { λ r. ⌜ Said walk limit (now (tag .entry)) (recordedOf (now (tag .entry)) (length (now (slots .entry))) (table .start .0) (table .length) (table .«entry_size»)) r (now (slots .entry)) (now (slots .exit)) ⌝ }
+{
+    let needed = p.na + p.nm + p.nb;
+    if slots.len() / RECORD_WORDS < needed as usize {
+        return refused(Refusal::TooFewSlots);
+    }
+    write_runs(tag, p, limit, walk, slots);
+    value(tag, p, table)
+}
+
+// Judges the runs of a tag whose colour table is good, and goes on.
+fn read_runs(tag: &[u8], table: ColourTable, limit: u64, walk: Walk, slots: &mut [u32]) -> Lut
+    requires { ⌜ length (now tag) < 2 ^ 32 ⌝ }
+    ensures { λ r. ⌜ Said walk limit (now (tag .entry)) (judgedOf walk limit (now (tag .entry)) (length (now (slots .entry))) (table .start .0) (table .length) (table .«entry_size»)) r (now (slots .entry)) (now (slots .exit)) ⌝ }
+{
+    let p = find_runs(tag);
+    let judged = check_runs(tag, p, limit, walk);
+    match judged {
+        Verdict::Good => write_records(tag, p, table, limit, walk, slots),
+        Verdict::Refused(why) => refused(why),
+    }
+}
+
+// Judges the colour table of a tag whose matrix is good, and goes on.
+fn read_parts(tag: &[u8], limit: u64, walk: Walk, slots: &mut [u32]) -> Lut
+    requires { ⌜ length (now tag) < 2 ^ 32 ⌝ }
+    ensures { λ r. ⌜ Said walk limit (now (tag .entry)) (withTable walk limit (now (tag .entry)) (length (now (slots .entry))) (tableOf (now (tag .entry)))) r (now (slots .entry)) (now (slots .exit)) ⌝ }
+{
+    let found = find_table(tag);
+    match found {
+        ClutAnswer::Value(table) => read_runs(tag, table, limit, walk, slots),
+        ClutAnswer::Refused(why) => refused(why),
+    }
+}
+
+// A tag of 48 bytes or more, of either type.
+pub(crate) fn read_lut_abm_type(tag: &[u8], limit: u64, walk: Walk, slots: &mut [u32]) -> Lut
+    requires { ⌜ length (now tag) < 2 ^ 32 ⌝ }
+    ensures { λ r. ⌜ Said walk limit (now (tag .entry)) (abmOf walk limit (now (tag .entry)) (length (now (slots .entry)))) r (now (slots .entry)) (now (slots .exit)) ⌝ }
+{
+    if too_many_channels(tag) {
+        return absent();
+    }
+    let judged = check_matrix(tag);
+    match judged {
+        Verdict::Good => read_parts(tag, limit, walk, slots),
+        Verdict::Refused(why) => refused(why),
+    }
+}

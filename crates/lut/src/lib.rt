@@ -1,0 +1,61 @@
+// Lookup tables: read_lut_tag of moxcms, for `mAB ` and `mBA `.
+mod abm;
+mod nested;
+
+pub use abm::AbmTable;
+pub use abm::Lut;
+pub use abm::LutAnswer;
+use curve::Walk;
+use fields::Entry;
+use fields::InTag;
+use fields::Kind;
+use fields::Place;
+use fields::Refusal;
+use fields::TAG_SIZE;
+pub use nested::RECORD_WORDS;
+ghost use mathlib.Core.Path.{_≡_};
+ghost use lib.ListN.{length};
+ghost use Prim.Native.Nat.{_^_, _<_};
+ghost use Rattle.lut.specs.Lut.{Said, sizeOf, tagOf, kindOf, lutOf};
+
+// By the type of the tag.
+fn read_kind(tag: &[u8], limit: u64, walk: Walk, slots: &mut [u32]) -> Lut
+    requires { ⌜ length (now tag) < 2 ^ 32 ⌝ }
+    ensures { λ r. ⌜ Said walk limit (now (tag .entry)) (kindOf walk limit (now (tag .entry)) (length (now (slots .entry)))) r (now (slots .entry)) (now (slots .exit)) ⌝ }
+{
+    match fields::kind_at(tag, InTag(0)) {
+        Kind::Mab => abm::read_lut_abm_type(tag, limit, walk, slots),
+        Kind::Mba => abm::read_lut_abm_type(tag, limit, walk, slots),
+        _ => abm::refused(Refusal::OtherLut),
+    }
+}
+
+// A size of 0 counts as 12.
+fn counted(size: u32) -> u32
+    ensures { λ r. ⌜ r ≡ sizeOf size ⌝ }
+{
+    if size == 0 { TAG_SIZE } else { size }
+}
+
+// The lookup table whose tag stands at `entry`, of `size` bytes; a size of 0 counts as 12. A curve may have `limit` entries. The
+// records of the curves go into `slots`, RECORD_WORDS words each, runs A, M and B one behind the other.
+pub fn read_lut_tag(
+    profile: &[u8],
+    entry: Entry,
+    size: u32,
+    limit: u64,
+    walk: Walk,
+    slots: &mut [u32],
+) -> Lut
+    ensures { λ r. ⌜ Said walk limit (tagOf (now (profile .entry)) (entry .0) size) (lutOf walk limit (now (profile .entry)) (entry .0) size (length (now (slots .entry)))) r (now (slots .entry)) (now (slots .exit)) ⌝ }
+{
+    let end = counted(size);
+    let place = fields::locate(profile, entry, InTag(end as u64));
+    let Place::In { from, to } = place else {
+        return abm::refused(Refusal::PastProfile);
+    };
+    if end < 48 {
+        return abm::refused(Refusal::TagTooShort);
+    }
+    read_kind(&profile[from..to], limit, walk, slots)
+}

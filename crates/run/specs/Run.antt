@@ -1,0 +1,73 @@
+-- A run of curves in a tag: the curves that a walk meets, each with its place, and how the run ends.
+use Prim.Native.Nat.{ℕ, zero, suc, _+_, _*_, _/_}
+use mathlib.Core.Bool.{cond}
+use mathlib.Core.List.{List, [], _∷_, _++_}
+use lib.Dec.{ltb}
+use lib.ListN.{length, drop}
+use Rattle.fields.specs.House.{tagSize}
+use Rattle.curve.specs.Curve.{curveOf}
+use Rattle.curve.specs.Shape.{Shape, Seen, is, no, sizeOf, stepOf, wordsOf}
+use Rattle.curve.specs.declared.Walk.{Walk}
+
+-- a curve and its offset in the tag
+pub record Placed : Type 0 where
+  pub at : ℕ
+  pub shape : Shape
+
+-- a run is read whole, or stops with a refusal at the curve of an offset
+pub data End : Type 0 where
+  whole : End
+  stopped : ℕ → ℕ → End
+
+-- the curves as far as the run gets, and its end
+pub record Ran : Type 0 where
+  pub curves : List Placed
+  pub end : End
+
+abbrev pub placed : ℕ → Shape → Placed
+placed at s = record { at = at; shape = s }
+
+abbrev pub done : Ran
+done = record { curves = []; end = whole }
+
+abbrev pub stops : ℕ → ℕ → Ran
+stops at n = record { curves = []; end = stopped n at }
+
+abbrev pub first : Placed → Ran → Ran
+first c r = record { curves = c ∷ r .curves; end = r .end }
+
+-- the next multiple of 4
+unfoldable pub raised : ℕ → ℕ
+raised n = (n + 3) / 4 * 4
+
+-- the curve at an offset of the tag; past the tag is refusal 2
+unfoldable pub entryAt : ℕ → List ℕ → ℕ → Seen
+entryAt limit t at = cond (ltb (length t) (at + tagSize)) (no 2) (curveOf limit (drop at t))
+
+-- what is seen at an offset, and the run that follows a curve there
+abbrev pub follow : ℕ → Seen → (Shape → Ran) → Ran
+follow at (is s) next = first (placed at s) (next s)
+follow at (no n) next = stops at n
+
+-- n curves from an offset on: the next starts where the walk's step ends, raised to a multiple of 4
+unfoldable pub runAt : Walk → ℕ → List ℕ → ℕ → ℕ → Ran
+runAt walk limit t at zero = done
+runAt walk limit t at (suc n) = follow at (entryAt limit t at) (λ s. runAt walk limit t (raised (at + stepOf walk s)) n)
+
+-- the first byte behind a curve
+abbrev pub endOf : Placed → ℕ
+endOf c = c .at + sizeOf (c .shape)
+
+-- words of a record
+abbrev pub recordWords : ℕ
+recordWords = 10
+
+-- the records of curves, one behind the other
+unfoldable pub recordsOf : List Placed → List ℕ
+recordsOf [] = []
+recordsOf (c ∷ cs) = wordsOf (c .at + tagSize) (c .shape) ++ recordsOf cs
+
+-- a condition on each of a list
+unfoldable pub Each : {A : Type 0} → (A → Type 0) → List A → Type 0
+Each P [] = Unit
+Each P (c ∷ cs) = P c × Each P cs
