@@ -102,12 +102,16 @@ pub(crate) fn write_run(tag: &[u8], at: InTag, n: u32, limit: u64, walk: Walk, s
     let mut next = at;
     let mut i: u32 = 0;
     while i < n {
-        let read = run_curve(tag, next, limit, walk);
-        let CurveAnswer::Value { curve, consumed } = read else {
+        let got = run_curve(tag, next, limit, walk);
+        let CurveAnswer::Value {
+            curve,
+            consumed: step,
+        } = got
+        else {
             return;
         };
         put(slots, i as usize * RECORD_WORDS, curve);
-        next = next_curve(next, consumed);
+        next = next_curve(next, step);
         i += 1;
     }
 }
