@@ -103,15 +103,11 @@ pub(crate) fn write_run(tag: &[u8], at: InTag, n: u32, limit: u64, walk: Walk, s
     let mut i: u32 = 0;
     while i < n {
         let got = run_curve(tag, next, limit, walk);
-        let CurveAnswer::Value {
-            curve,
-            consumed: step,
-        } = got
-        else {
+        let CurveAnswer::Value { curve, consumed } = got else {
             return;
         };
         put(slots, i as usize * RECORD_WORDS, curve);
-        next = next_curve(next, step);
+        next = next_curve(next, consumed);
         i += 1;
     }
 }
