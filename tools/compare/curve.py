@@ -68,7 +68,7 @@ def expected(job: Job, line: str) -> str:
     if fault:
         return fault
     if record_kind >= 2:
-        curve = f"para:{count}:{','.join(map(_float, parameters[:used]))}"
+        curve = f"para:{count}:{','.join(map(float_text, parameters[:used]))}"
     else:
         data = job.offset + start
         curve = f"lut:16:{count}:x{job.profile[data : data + 2 * count].hex()}"
@@ -104,7 +104,7 @@ def _unseen_fault(job: Job, record_kind: int, start: int, count: int, parameters
     return ""
 
 
-def _float(parameter: int) -> str:
+def float_text(parameter: int) -> str:
     """A parameter as the oracle prints it: the bits of the float, and what is left of the parameter."""
     bits = struct.pack(">f", parameter / 65536)
     (value,) = struct.unpack(">f", bits)
@@ -144,7 +144,7 @@ BEHIND_LENGTHS = (0, 0, 0, 0, 1, 2, 3, 4, 40)
 
 
 def generate(rng: Random) -> Job:
-    element, count = _element(rng)
+    element, count = random_element(rng)
     exact = len(element)
     if rng.random() < 0.1:
         element = _damaged(rng, element)
@@ -152,19 +152,19 @@ def generate(rng: Random) -> Job:
     profile = front + element + rng.randbytes(rng.choice(BEHIND_LENGTHS))
     if rng.random() < 0.02:
         profile = profile[: rng.randrange(HEAD + 1)]
-    offset = _offset(rng, len(front), len(profile))
+    offset = random_offset(rng, len(front), len(profile))
     return Job(
         reader=rng.choice(READERS),
         offset=offset,
         size=_size(rng, exact, offset, len(profile)),
         profile=profile,
-        curve_limit=_limit(rng, count),
+        curve_limit=random_limit(rng, count),
         grid_limit=rng.choice((0, 1, NO_LIMIT)),
         words=rng.choice((0, 0, 0, 9, 10, MOST_WORDS)),
     )
 
 
-def _element(rng: Random) -> tuple[bytes, int]:
+def random_element(rng: Random) -> tuple[bytes, int]:
     """A curve, or what looks like one, and the count of entries that it declares."""
     shape = rng.random()
     if shape < 0.45:
@@ -222,7 +222,7 @@ def _damaged(rng: Random, element: bytes) -> bytes:
     return rng.choice((element[:-cut], element[:at] + rng.randbytes(1) + element[at + 1 :]))
 
 
-def _offset(rng: Random, right: int, length: int) -> int:
+def random_offset(rng: Random, right: int, length: int) -> int:
     if rng.random() < 0.85:
         return right
     return max(0, rng.choice((
@@ -263,7 +263,7 @@ def _size(rng: Random, exact: int, offset: int, length: int) -> int:
     return min(max(0, size), LAST_U32)
 
 
-def _limit(rng: Random, count: int) -> int:
+def random_limit(rng: Random, count: int) -> int:
     choice = rng.random()
     if choice < 0.4:
         return HOUSE_CURVE_LIMIT
