@@ -3,6 +3,7 @@ pub mod PartLaws
 pub mod Laws
 pub mod Accepted
 pub mod Unique
+pub mod Needed
 pub mod Inside
 pub mod More
 pub mod Conforms

@@ -66,9 +66,9 @@ last-end r s (inr e) = inr (rw e)
 runs-limit : (walk : Walk) (low high : ℕ) (t : List ℕ) (p : Plan) → low ≤ high → Grows (λ j. j ≡ bad 10) (runsJudged walk low t p) (runsJudged walk high t p)
 unfolding runsJudged
 runs-limit walk low high t p h =
-    grow-end (runA walk low t p) (runA walk high t p) _ _ (run-limit walk low high t h (p .a) (p .na))
-    (grow-end (runM walk low t p) (runM walk high t p) _ _ (run-limit walk low high t h (p .m) (p .nm))
-    (last-end (runB walk low t p) (runB walk high t p) (run-limit walk low high t h (p .b) (p .nb))))
+    grow-end (runA walk low t p) (runA walk high t p) _ _ (run-limit walk low high t h (p .a .0) (p .na))
+    (grow-end (runM walk low t p) (runM walk high t p) _ _ (run-limit walk low high t h (p .m .0) (p .nm))
+    (last-end (runB walk low t p) (runB walk high t p) (run-limit walk low high t h (p .b .0) (p .nb))))
 
 judged-grows : (j k : Judged) (a : Answer) → Grows (λ j. j ≡ bad 10) j k → Grows (Is 10) (orRefused j a) (orRefused k a)
 judged-grows j k a (inl e) = inl (rw e)
@@ -143,7 +143,7 @@ run-stays walk low high t h at n w = elim (run-limit walk low high t h at n) [
 curves-stay : (walk : Walk) (low high : ℕ) (t : List ℕ) (p : Plan) → low ≤ high → runsJudged walk low t p ≡ good → curvesOf walk high t p ≡ curvesOf walk low t p
 unfolding curvesOf
 curves-stay walk low high t p h g =
-    rw (run-stays walk low high t h (p .a) (p .na) (a-whole walk low t p g), run-stays walk low high t h (p .m) (p .nm) (m-whole walk low t p g), run-stays walk low high t h (p .b) (p .nb) (b-whole walk low t p g))
+    rw (run-stays walk low high t h (p .a .0) (p .na) (a-whole walk low t p g), run-stays walk low high t h (p .m .0) (p .nm) (m-whole walk low t p g), run-stays walk low high t h (p .b .0) (p .nb) (b-whole walk low t p g))
 
 -- with bytes behind the profile, a higher limit and more slots a value keeps every field and every record
 pub record Stays (walk : Walk) (low high : ℕ) (p q : List ℕ) (entry size few many : ℕ) : Type 0 where

@@ -70,7 +70,7 @@ module _ (t : List ℕ) (offset channels r : ℕ) (few : Few (present offset cha
 
 pub ruleset few-laws = (none-few, some-few, a-few, m-few, b-few)
 
-pub planned : (t : List ℕ) (p : Plan) → p .a ≡ u32At t 28 → Few (aCurves t) (p .na) → p .m ≡ u32At t 20 → Few (mCurves t) (p .nm) → p .b ≡ u32At t 12 → Few (bCurves t) (p .nb) → Planned t p
+pub planned : (t : List ℕ) (p : Plan) → p .a .0 ≡ u32At t 28 → Few (aCurves t) (p .na) → p .m .0 ≡ u32At t 20 → Few (mCurves t) (p .nm) → p .b .0 ≡ u32At t 12 → Few (bCurves t) (p .nb) → Planned t p
 unfolding planOf
 planned t p ea fa em fm eb fb =
     record { is = rw (← ea, ← fa .is, ← em, ← fm .is, ← eb, ← fb .is); a-few = fa .few; m-few = fm .few; b-few = fb .few }
@@ -160,7 +160,7 @@ module _ (walk : Walk) (limit : ℕ) (t : List ℕ) (p : Plan) (h : runsJudged w
   all-records = records-append (runA walk limit t p .curves ++ runM walk limit t p .curves) (runB walk limit t p .curves) ∙ ap (λ (x : List ℕ). x ++ recordsOf (runB walk limit t p .curves)) (records-append (runA walk limit t p .curves) (runM walk limit t p .curves))
 
   pub all-length : length (recordsOf (curvesOf walk limit t p)) ≡ (p .na + p .nm + p .nb) * recordWords
-  all-length = ap length all-records ∙ simp length-append (omega (arith, records-of (p .a) (p .na) a-whole, records-of (p .m) (p .nm) m-whole, records-of (p .b) (p .nb) b-whole))
+  all-length = ap length all-records ∙ simp length-append (omega (arith, records-of (p .a .0) (p .na) a-whole, records-of (p .m .0) (p .nm) m-whole, records-of (p .b .0) (p .nb) b-whole))
 
   -- each run is written in front of its part: s₁, s₂ are the slots between the calls, and y₂, y₃ what the calls left of the parts
   pub runs-written : (s₀ : List ℕ) → (p .na + p .nm + p .nb) * recordWords ≤ length s₀
@@ -173,9 +173,9 @@ module _ (walk : Walk) (limit : ℕ) (t : List ℕ) (p : Plan) (h : runsJudged w
       let A : List ℕ = recordsOf (runA walk limit t p .curves) in
       let M : List ℕ = recordsOf (runM walk limit t p .curves) in
       let B : List ℕ = recordsOf (runB walk limit t p .curves) in
-      let la : length A ≡ p .na * recordWords = records-of (p .a) (p .na) a-whole in
-      let lm : length M ≡ p .nm * recordWords = records-of (p .m) (p .nm) m-whole in
-      let lb : length B ≡ p .nb * recordWords = records-of (p .b) (p .nb) b-whole in
+      let la : length A ≡ p .na * recordWords = records-of (p .a .0) (p .na) a-whole in
+      let lm : length M ≡ p .nm * recordWords = records-of (p .m .0) (p .nm) m-whole in
+      let lb : length B ≡ p .nb * recordWords = records-of (p .b .0) (p .nb) b-whole in
       let w₁ : s₁ ≡ sets s₀ 0 A = e₁ ∙ front s₀ A (p .na * recordWords) la (omega arith) in
       let l₁ : length s₁ ≡ length s₀ = ap length w₁ ∙ length-sets s₀ 0 A in
       let w₂ : s₂ ≡ sets s₁ (p .na * recordWords) M = p₂ ∙ rejoined s₁ M (p .na * recordWords) (p .nm * recordWords) lm (omega arith) y₂ e₂ in

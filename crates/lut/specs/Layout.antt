@@ -75,7 +75,8 @@ pub record Few (n r : ℕ) : Type 0 where
 
 -- where the three runs start, and how many curves each has
 unfoldable pub planOf : List ℕ → Plan
-planOf t = record { a = aOffset t; na = aCurves t; m = mOffset t; nm = mCurves t; b = bOffset t; nb = bCurves t }
+planOf t =
+    record { a = record { 0 = aOffset t }; na = aCurves t; m = record { 0 = mOffset t }; nm = mCurves t; b = record { 0 = bOffset t }; nb = bCurves t }
 
 pub record Planned (t : List ℕ) (p : Plan) : Type 0 where
   pub is : p ≡ planOf t

@@ -12,13 +12,13 @@ use Rattle.lut.specs.declared.abm.Plan.{Plan}
 
 -- the three runs, each by itself
 abbrev pub runA : Walk → ℕ → List ℕ → Plan → Ran
-runA walk limit t p = runAt walk limit t (p .a) (p .na)
+runA walk limit t p = runAt walk limit t (p .a .0) (p .na)
 
 abbrev pub runM : Walk → ℕ → List ℕ → Plan → Ran
-runM walk limit t p = runAt walk limit t (p .m) (p .nm)
+runM walk limit t p = runAt walk limit t (p .m .0) (p .nm)
 
 abbrev pub runB : Walk → ℕ → List ℕ → Plan → Ran
-runB walk limit t p = runAt walk limit t (p .b) (p .nb)
+runB walk limit t p = runAt walk limit t (p .b .0) (p .nb)
 
 -- they are judged one after the other
 unfoldable pub runsJudged : Walk → ℕ → List ℕ → Plan → Judged

@@ -134,23 +134,26 @@ fn b_curves(tag: &[u8]) -> u32
 
 // Where the runs A, M and B start, and how many curves each has.
 struct Plan {
-    a: u32,
+    a: InTag,
     na: u32,
-    m: u32,
+    m: InTag,
     nm: u32,
-    b: u32,
+    b: InTag,
     nb: u32,
 }
 
 fn find_runs(tag: &[u8]) -> Plan
     ensures { λ r. ⌜ Planned (now (tag .entry)) r ⌝ }
 {
+    let a = fields::u32_at(tag, InTag(28));
+    let m = fields::u32_at(tag, InTag(20));
+    let b = fields::u32_at(tag, InTag(12));
     Plan {
-        a: fields::u32_at(tag, InTag(28)),
+        a: InTag(a as u64),
         na: a_curves(tag),
-        m: fields::u32_at(tag, InTag(20)),
+        m: InTag(m as u64),
         nm: m_curves(tag),
-        b: fields::u32_at(tag, InTag(12)),
+        b: InTag(b as u64),
         nb: b_curves(tag),
     }
 }
@@ -160,15 +163,18 @@ fn check_runs(tag: &[u8], p: Plan, limit: u64, walk: Walk) -> Verdict
     requires { ⌜ length (now tag) < 2 ^ 32 ⌝ }
     ensures { λ r. ⌜ judgedFrom r ≡ runsJudged walk limit (now (tag .entry)) p ⌝ }
 {
-    let a = nested::check_run(tag, InTag(p.a as u64), p.na, limit, walk);
+    let a_at = p.a;
+    let a = nested::check_run(tag, a_at, p.na, limit, walk);
     let Verdict::Good = a else {
         return a;
     };
-    let m = nested::check_run(tag, InTag(p.m as u64), p.nm, limit, walk);
+    let m_at = p.m;
+    let m = nested::check_run(tag, m_at, p.nm, limit, walk);
     let Verdict::Good = m else {
         return m;
     };
-    nested::check_run(tag, InTag(p.b as u64), p.nb, limit, walk)
+    let b_at = p.b;
+    nested::check_run(tag, b_at, p.nb, limit, walk)
 }
 
 // Writes the records of the three runs, which were judged good: each from the slot where the one before ended.
@@ -178,25 +184,14 @@ fn write_runs(tag: &[u8], p: Plan, limit: u64, walk: Walk, slots: &mut [u32])
 {
     let na = p.na as usize;
     let nm = p.nm as usize;
-    nested::write_run(tag, InTag(p.a as u64), p.na, limit, walk, slots);
+    let a_at = p.a;
+    nested::write_run(tag, a_at, p.na, limit, walk, slots);
+    let m_at = p.m;
     let first_m = na * RECORD_WORDS;
-    nested::write_run(
-        tag,
-        InTag(p.m as u64),
-        p.nm,
-        limit,
-        walk,
-        &mut slots[first_m..],
-    );
+    nested::write_run(tag, m_at, p.nm, limit, walk, &mut slots[first_m..]);
+    let b_at = p.b;
     let first_b = (na + nm) * RECORD_WORDS;
-    nested::write_run(
-        tag,
-        InTag(p.b as u64),
-        p.nb,
-        limit,
-        walk,
-        &mut slots[first_b..],
-    );
+    nested::write_run(tag, b_at, p.nb, limit, walk, &mut slots[first_b..]);
 }
 
 // A matrix has 48 bytes.
@@ -232,25 +227,25 @@ fn find_table(tag: &[u8]) -> ClutAnswer
 }
 
 // Fills `out` with the 32-bit numbers from `at` on.
-fn fill_words(tag: &[u8], at: u64, out: &mut [u32])
-    requires { ⌜ (at < 2 ^ 33) × (length (now out) < 2 ^ 32) ⌝ }
-    ensures { λ _. ⌜ now (out .exit) ≡ wordsAt (now (tag .entry)) at (length (now (out .entry))) ⌝ }
+fn fill_words(tag: &[u8], at: InTag, out: &mut [u32])
+    requires { ⌜ (at .0 < 2 ^ 33) × (length (now out) < 2 ^ 32) ⌝ }
+    ensures { λ _. ⌜ now (out .exit) ≡ wordsAt (now (tag .entry)) (at .0) (length (now (out .entry))) ⌝ }
 {
     let mut i = 0;
     while i < out.len() {
-        out[i] = fields::u32_at(tag, InTag(at + 4 * (i as u64)));
+        out[i] = fields::u32_at(tag, InTag(at.0 + 4 * (i as u64)));
         i += 1;
     }
 }
 
 // Fills `out` with the bytes from `at` on.
-fn fill_bytes(tag: &[u8], at: u64, out: &mut [u8])
-    requires { ⌜ (at < 2 ^ 33) × (length (now out) < 2 ^ 32) ⌝ }
-    ensures { λ _. ⌜ now (out .exit) ≡ bytesAt (now (tag .entry)) at (length (now (out .entry))) ⌝ }
+fn fill_bytes(tag: &[u8], at: InTag, out: &mut [u8])
+    requires { ⌜ (at .0 < 2 ^ 33) × (length (now out) < 2 ^ 32) ⌝ }
+    ensures { λ _. ⌜ now (out .exit) ≡ bytesAt (now (tag .entry)) (at .0) (length (now (out .entry))) ⌝ }
 {
     let mut i = 0;
     while i < out.len() {
-        out[i] = fields::u8_at(tag, InTag(at + i as u64));
+        out[i] = fields::u8_at(tag, InTag(at.0 + i as u64));
         i += 1;
     }
 }
@@ -262,7 +257,7 @@ fn matrix(tag: &[u8]) -> [u32; 9]
     let at = fields::u32_at(tag, InTag(16));
     let mut words = [65536u32, 0, 0, 0, 65536, 0, 0, 0, 65536];
     if at != 0 {
-        fill_words(tag, at as u64, &mut words);
+        fill_words(tag, InTag(at as u64), &mut words);
     }
     words
 }
@@ -273,7 +268,7 @@ fn bias(tag: &[u8]) -> [u32; 3]
     let at = fields::u32_at(tag, InTag(16));
     let mut words = [0u32; 3];
     if at != 0 {
-        fill_words(tag, at as u64 + 36, &mut words);
+        fill_words(tag, InTag(at as u64 + 36), &mut words);
     }
     words
 }
@@ -285,7 +280,7 @@ fn grid(tag: &[u8]) -> [u8; 16]
     let at = fields::u32_at(tag, InTag(24));
     let mut bytes = [0u8; 16];
     if at != 0 {
-        fill_bytes(tag, at as u64, &mut bytes);
+        fill_bytes(tag, InTag(at as u64), &mut bytes);
     }
     bytes
 }

@@ -9,16 +9,13 @@ pub check-runs-spec : {M : Type 1} → statement M
 check-runs-spec =
     tie.close
     (tie.spec
-    (λ c. search needs)
     (λ c κs. search needs)
     (λ c. search needs)
     (λ c. search needs)
     (λ c. search (needs, runs-laws))
-    (λ c. search needs)
     (λ c κs. search needs)
     (λ c. search needs)
     (λ c. search needs)
     (λ c. search (needs, runs-laws))
-    (λ c. search needs)
     (λ c κs. search needs)
     (λ c. search (needs, runs-laws)))

@@ -13,7 +13,7 @@ use Rattle.lut.proofs.abm.fill_words.Tie as tie
 
 abbrev Inv-loop : tie.InvT-loop
 Inv-loop tag at out₀ i₀ out i =
-    (i ≤ length out₀) × (length out ≡ length out₀) × (sets out i (drop i (wordsAt tag at (length out₀))) ≡ wordsAt tag at (length out₀))
+    (i ≤ length out₀) × (length out ≡ length out₀) × (sets out i (drop i (wordsAt tag (at .0) (length out₀))) ≡ wordsAt tag (at .0) (length out₀))
 
 abbrev μ-loop : tie.MeasureT-loop
 μ-loop tag at out₀ i₀ out i = length out₀ - i
