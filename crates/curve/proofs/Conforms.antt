@@ -3,19 +3,19 @@
 -- Assumes nothing.
 use Prim.Native.Nat.{ℕ, _+_, _*_, _≤_}
 use native.Mathlib.Omega.{arith}
-use mathlib.Core.Path.{_≡_, refl, sym, subst, _∙_}
-use mathlib.Core.Bool.{Bool, true, false, cond, _&&_, false≢true}
+use mathlib.Core.Path.{_≡_, refl, subst}
+use mathlib.Core.Bool.{Bool, true, false, _&&_}
 use mathlib.Core.List.{List}
 use lib.Dec.{ltb, leb, eqb}
-use lib.ListN.{length, getD, take, drop}
-use borrow.Author.Tests.{eq-eqb, ne-eqb, le-ltb, lt-ltb, ltb-false, eqb-true, eqb-false}
+use lib.ListN.{length, getD}
+use borrow.Author.Tests.{ne-eqb, le-ltb, ltb-false, eqb-true, eqb-false}
 use Rattle.fields.specs.Bytes.{u16At, u32At}
 use Rattle.fields.specs.Tag.{signatureOf}
 use Rattle.fields.specs.declared.Kind.the-variants.{Curv, Para}
 use Rattle.fields.proofs.Choice.{each, second-fails}
-use Rattle.curve.specs.Answer.{Answer, value, answerOf}
+use Rattle.curve.specs.Answer.{value, answerOf}
 use Rattle.curve.specs.Curve.{trcOf, curveOf, tableOf, paraOf, divides, tagOf}
-use Rattle.curve.specs.Layout.{CurveType, ParametricCurveType, parameterCount, parameters}
+use Rattle.curve.specs.Layout.{parameterCount, parameters}
 use Rattle.curve.specs.Shape.{Shape, Seen, is, no, empty, table, para, wordsOf, stepOf}
 use Rattle.curve.specs.Standard.{Laid, WellFormed, Within}
 use Rattle.curve.specs.declared.Walk.{Walk}

@@ -1,9 +1,9 @@
 -- Demand 1 of the tone curve: an accepted curve lies inside its tag, and the tag inside the profile.
 -- Assumes nothing.
-use Prim.Native.Nat.{ℕ, _+_, _*_, _≤_, _<_}
+use Prim.Native.Nat.{ℕ, _+_, _≤_}
 use native.Mathlib.Omega.{arith}
-use mathlib.Core.Path.{_≡_, refl, sym, _∙_}
-use mathlib.Core.Bool.{Bool, true, false, cond, _&&_}
+use mathlib.Core.Path.{_≡_, refl}
+use mathlib.Core.Bool.{_&&_}
 use mathlib.Core.List.{List}
 use lib.Dec.{ltb, leb}
 use lib.ListN.{length}
@@ -11,9 +11,8 @@ use borrow.Author.Tests.{ltb-false}
 use Rattle.fields.proofs.Choice.{each}
 use Rattle.curve.specs.Answer.{Answer, value, absent, refused, answerOf}
 use Rattle.curve.specs.Curve.{trcOf, curveOf, tagOf}
-use Rattle.curve.specs.Layout.{parameterCount}
 use Rattle.curve.specs.Shape.{Shape, Seen, is, no, empty, table, para, sizeOf, stepOf, wordsOf}
-use Rattle.curve.specs.Standard.{Laid, Within}
+use Rattle.curve.specs.Standard.{Laid}
 use Rattle.curve.specs.declared.Walk.{Walk}
 use Rattle.curve.specs.declared.Walk.the-variants.{Crate, Book}
 use Rattle.curve.proofs.Conforms.{laid}

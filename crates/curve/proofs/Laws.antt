@@ -3,7 +3,7 @@
 -- Assumes nothing.
 use Prim.Native.Nat.{ℕ, _+_, _-_, _*_, _≤_, _<_}
 use native.Mathlib.Omega.{arith}
-use mathlib.Core.Path.{_≡_, refl, sym, _∙_, ap}
+use mathlib.Core.Path.{_≡_, refl, sym, _∙_}
 use mathlib.Core.Bool.{Bool, true, false, _&&_}
 use mathlib.Core.List.{List, [], _∷_}
 use lib.Dec.{eqb}
@@ -11,11 +11,11 @@ use lib.ListN.{length, getD, take, drop}
 use types.Run.{OneOf}
 use denote.Enum.Declared.{tagOf as placeIn}
 use borrow.Author.Tests.{eq-eqb, ne-eqb, lt-ltb, le-ltb, le-leb, lt-leb}
-use Rattle.fields.specs.Bytes.{u16At, u32At, wordsAt}
+use Rattle.fields.specs.Bytes.{u32At, wordsAt}
 use Rattle.fields.specs.Place.{placeOf}
 use Rattle.fields.specs.Tag.{signatureOf, kindOf}
 use Rattle.fields.specs.declared.Kind.{Kind}
-use Rattle.fields.specs.declared.Kind.the-variants.{Curv, Para, Other}
+use Rattle.fields.specs.declared.Kind.the-variants.{Curv, Para}
 use Rattle.fields.specs.declared.Place.{Place}
 use Rattle.fields.specs.declared.Place.the-variants.{In, Past}
 use Rattle.fields.proofs.Kind as kinds
@@ -24,7 +24,7 @@ use Rattle.fields.proofs.Signatures.{arm, unlike, others}
 use Rattle.fields.proofs.Words.{word-at, word-past}
 use Rattle.curve.specs.Answer.{Answer, value, absent, refused, words, answerOf}
 use Rattle.curve.specs.Curve.{trcOf, curveOf, tableOf, paraOf, divides}
-use Rattle.curve.specs.Layout.{entryCount, functionType, parameterCount, parameters}
+use Rattle.curve.specs.Layout.{entryCount, functionType, parameterCount}
 use Rattle.curve.specs.Shape.{emptyStep, stepOf, sizeOf, recordOf, wordsOf}
 use Rattle.curve.specs.declared.CurveRecord.{CurveRecord}
 use Rattle.curve.specs.declared.Walk.{Walk}

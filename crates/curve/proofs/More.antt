@@ -1,24 +1,24 @@
 -- Demand 3 of the tone curve. Bytes behind the profile keep every answer but refusal 11 and the absence for want of four bytes. A
 -- higher limit keeps every answer but refusal 10. A value is kept by both at once.
 -- Assumes nothing.
-use Prim.Native.Nat.{ℕ, zero, suc, _+_, _*_, _≤_, _<_}
+use Prim.Native.Nat.{ℕ, _+_, _*_, _≤_, _<_}
 use native.Mathlib.Omega.{arith}
 use mathlib.Core.Path.{_≡_, refl, _∙_, ap}
 use mathlib.Core.Bool.{Bool, true, false, cond, _&&_}
 use mathlib.Core.List.{List, _++_}
 use mathlib.Core.Logic.{_⊎_, inl, inr}
 use lib.Dec.{ltb, leb, eqb}
-use lib.ListN.{length, getD, take, drop}
+use lib.ListN.{length, take, drop}
 use borrow.Author.Tests.{ltb-true, ltb-false, le-ltb, lt-ltb}
-use Rattle.fields.specs.Bytes.{u16At, u32At, wordsAt}
+use Rattle.fields.specs.Bytes.{u16At, u32At}
 use Rattle.fields.specs.Tag.{signatureOf}
 use Rattle.fields.specs.declared.Kind.the-variants.{Curv, Para}
 use Rattle.fields.proofs.Append.{u16-append, u32-append, words-append, longer, part-append, rest-append}
 use Rattle.fields.proofs.Grow.{Grows, choose, passes}
 use Rattle.curve.specs.Answer.{Answer, value, absent, refused, answerOf}
-use Rattle.curve.specs.Curve.{trcOf, curveOf, tableOf, paraOf, divides, tagOf}
+use Rattle.curve.specs.Curve.{trcOf, curveOf, tableOf, paraOf, tagOf}
 use Rattle.curve.specs.Layout.{parameterCount}
-use Rattle.curve.specs.Shape.{Seen, is, no}
+use Rattle.curve.specs.Shape.{Seen, no}
 use Rattle.curve.specs.declared.Walk.{Walk}
 
 -- the answers that may change: those of one refusal

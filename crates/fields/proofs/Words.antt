@@ -2,9 +2,10 @@
 -- Assumes nothing.
 use Prim.Native.Nat.{ℕ, zero, suc, _+_, _*_, _≤_, _<_}
 use native.Mathlib.Omega.{arith}
-use mathlib.Core.Path.{_≡_, refl, _∙_, ap}
-use mathlib.Core.List.{List, [], _∷_}
-use lib.ListN.{length, getD, List·getD-eq-default}
+use mathlib.Core.Path.{_≡_, refl, sym, _∙_, ap}
+use mathlib.Core.List.{List}
+use lib.ListN.{length, getD, take, drop, length-drop, List·getD-eq-default}
+use lib.Seq.{ext-getD, getD-take, getD-drop, length-take-le}
 use Rattle.fields.specs.Bytes.{u32At, bytesAt, wordsAt}
 
 module _ (s : List ℕ) where
@@ -36,3 +37,10 @@ module _ (s : List ℕ) where
   byte-at i (suc n) (suc k) h =
       let e : (i + 1) + k ≡ i + suc k = omega arith in
       byte-at (i + 1) n k (omega arith) ∙ ap (λ (j : ℕ). getD s j 0) e
+
+  -- a row that lies in s is a part of it
+  pub bytes-part : (i n : ℕ) → i + n ≤ length s → bytesAt s i n ≡ take n (drop i s)
+  bytes-part i n h =
+      let part : length (take n (drop i s)) ≡ n = length-take-le n (drop i s) (omega (arith, length-drop i s)) in
+      ext-getD 0 _ _ (bytes-length i n ∙ sym part)
+      (λ k l. let m : k < n = omega (arith, bytes-length i n) in byte-at i n k m ∙ sym (getD-take n (drop i s) k 0 m ∙ getD-drop i s k 0))

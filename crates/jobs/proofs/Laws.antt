@@ -1,24 +1,24 @@
 -- The meanings case by case, as the code meets them, and the pieces of a record's text.
 -- Assumes nothing.
-use Prim.Native.Nat.{ℕ, _+_, _-_, _*_, _^_, _≤_, _<_}
+use Prim.Native.Nat.{ℕ, _-_, _≤_, _<_}
 use native.Mathlib.Omega.{arith}
-use mathlib.Core.Path.{_≡_, refl, sym, ap, _∙_}
-use mathlib.Core.List.{List, [], _∷_, _++_}
+use mathlib.Core.Path.{_≡_, ap}
+use mathlib.Core.List.{List, [], _∷_}
 use lib.ListN.{length, getD, take, drop}
 use borrow.Author.Tests.{eq-eqb, ne-eqb, lt-ltb, le-ltb}
-use Rattle.fields.specs.Bytes.{u32At, signed}
+use Rattle.fields.specs.Bytes.{u32At}
 use Rattle.fields.specs.Refusals.{numberOf}
 use Rattle.fields.specs.declared.Refusal.{Refusal}
 use Rattle.fields.proofs.Located.{rest-is}
-use Rattle.curve.specs.Answer.{Answer, value, absent, refused, words, paper}
+use Rattle.curve.specs.Answer.{Answer, absent, words, paper}
 use Rattle.curve.specs.Curve.{trcOf}
 use Rattle.curve.specs.declared.CurveAnswer.{CurveAnswer}
 use Rattle.curve.specs.declared.CurveRecord.{CurveRecord}
 use Rattle.curve.specs.declared.Walk.the-variants.{Crate}
 use Rattle.lines.specs.Text.{Wrote, number, numerals}
 use Rattle.lines.proofs.Writing.{joined}
-use Rattle.jobs.specs.CurveLine.{Line, answered, badJob, lineFrom, lineOf, recordText, textOf}
-use Rattle.jobs.specs.Stream.{u64At, jobOf, headOf}
+use Rattle.jobs.specs.CurveLine.{answered, badJob, lineFrom, lineOf, recordText, textOf}
+use Rattle.jobs.specs.Stream.{jobOf, headOf}
 use Rattle.jobs.specs.declared.CurveLine.{CurveLine}
 use Rattle.jobs.specs.declared.StreamHead.{StreamHead}
 use Rattle.jobs.specs.declared.StreamJob.{StreamJob}

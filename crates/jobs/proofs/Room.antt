@@ -1,9 +1,9 @@
 -- 256 bytes have room for every line of `curve-line`.
 -- Assumes nothing.
-use Prim.Native.Nat.{ℕ, _+_, _≤_}
+use Prim.Native.Nat.{ℕ, _≤_}
 use native.Mathlib.Omega.{arith}
-use mathlib.Core.Path.{_≡_, refl, sym, ap, _∙_}
-use mathlib.Core.List.{List, [], _∷_, _++_}
+use mathlib.Core.Path.{_≡_, refl, ap, _∙_}
+use mathlib.Core.List.{List}
 use lib.Dec.{ltb, eqb}
 use lib.ListN.{length, getD, drop, length-append}
 use Rattle.fields.specs.Bytes.{u32At}
@@ -13,7 +13,6 @@ use Rattle.curve.specs.Curve.{trcOf}
 use Rattle.curve.specs.Shape.{Shape, empty, table, para, wordsOf}
 use Rattle.curve.specs.declared.Walk.the-variants.{Crate}
 use Rattle.curve.proofs.Inside.{accepted-inside}
-use Rattle.lines.specs.Text.{number, numerals}
 use Rattle.lines.proofs.Size.{number-size, numerals-size}
 use Rattle.jobs.specs.CurveLine.{Line, answered, badJob, lineOf, recordText, textOf}
 

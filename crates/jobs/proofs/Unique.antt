@@ -2,9 +2,8 @@
 -- Assumes nothing.
 use mathlib.Core.Path.{_≡_, refl, ap}
 use Rattle.curve.specs.Answer.{paper}
-use Rattle.curve.specs.declared.CurveAnswer.{CurveAnswer}
 use Rattle.curve.proofs.Unique.{unique as curve-unique}
-use Rattle.jobs.specs.CurveLine.{Line, answered, badJob, lineFrom}
+use Rattle.jobs.specs.CurveLine.{Line, lineFrom}
 use Rattle.jobs.specs.declared.CurveLine.{CurveLine}
 use native.Mathlib.Omega.{arith}
 use Prim.Native.Nat.{ℕ}

@@ -7,11 +7,10 @@ use mathlib.Core.List.{List, [], _∷_, _++_, append-assoc, append-nil}
 use native.Mathlib.Numerals.{add-one}
 use lib.ListN.{length, getD, take}
 use lib.Seq.{take-suc, take-all}
-use lib.IntN.{ℤ, pos, negsuc}
 use borrow.Author.Tests.{lt-ltb, le-ltb}
 use Rattle.io.specs.Digits.{digits, Fewest}
 use Rattle.fields.specs.Bytes.{signed}
-use Rattle.lines.specs.Text.{Wrote, decimal, number, numeral, numerals}
+use Rattle.lines.specs.Text.{Wrote, number, numeral, numerals}
 use Rattle.lines.proofs.Writing.{joined, nothing}
 use Rattle.lines.proofs.Digits.{is-decimal}
 

@@ -2,8 +2,8 @@
 -- Assumes nothing.
 use Prim.Native.Nat.{ℕ, _+_, _/_, _≤_}
 use native.Mathlib.Omega.{arith}
-use mathlib.Core.Path.{_≡_, refl, sym, _∙_, ap, subst}
-use mathlib.Core.Bool.{Bool, true, false, cond, _&&_}
+use mathlib.Core.Path.{_≡_, refl}
+use mathlib.Core.Bool.{false, _&&_}
 use mathlib.Core.List.{List}
 use lib.Dec.{ltb, eqb}
 use lib.ListN.{length}
@@ -17,9 +17,9 @@ use Rattle.clut.specs.Table.{Table, lengthOf}
 use Rattle.curve.specs.declared.Walk.{Walk}
 use Rattle.run.specs.Run.{recordWords}
 use Rattle.lut.specs.Abm.{tableOf, valueFrom, recordedOf, judgedOf, withTable, abmOf}
-use Rattle.lut.specs.Answer.{Abm, State, abm, absent, refused, Answer, orRefused}
+use Rattle.lut.specs.Answer.{Abm, State, abm, refused, Answer, orRefused}
 use Rattle.lut.specs.Layout.{inputs, outputs, planOf, recordsNeeded}
-use Rattle.lut.specs.Lut.{sizeOf, tagOf, kindOf, lutOf}
+use Rattle.lut.specs.Lut.{countedSize, tagOf, byType, lutOf}
 use Rattle.lut.specs.Parts.{runsJudged, matrixJudged}
 use Rattle.lut.specs.Verdict.{Judged, good, bad}
 
@@ -65,15 +65,15 @@ module _ (walk : Walk) (limit : ℕ) (t : List ℕ) (words : ℕ) where
 -- ---- a tag in its profile
 
 pub record Found (walk : Walk) (limit : ℕ) (p : List ℕ) (entry size words : ℕ) : Type 0 where
-  pub tag-in-profile : entry + sizeOf size ≤ length p
+  pub tag-in-profile : entry + countedSize size ≤ length p
   pub as-tag : lutOf walk limit p entry size words ≡ abmOf walk limit (tagOf p entry size) words
 
 module _ (walk : Walk) (limit : ℕ) (p : List ℕ) (entry size words : ℕ) where
   abbrev FoundBy : Answer → Type 0
-  FoundBy a = (f : Abm) → a .state ≡ abm f → (entry + sizeOf size ≤ length p) × (a ≡ abmOf walk limit (tagOf p entry size) words)
+  FoundBy a = (f : Abm) → a .state ≡ abm f → (entry + countedSize size ≤ length p) × (a ≡ abmOf walk limit (tagOf p entry size) words)
 
-  kind-found : entry + sizeOf size ≤ length p → FoundBy (kindOf walk limit (tagOf p entry size) words)
-  unfolding kindOf
+  kind-found : entry + countedSize size ≤ length p → FoundBy (byType walk limit (tagOf p entry size) words)
+  unfolding byType
   kind-found l =
       let t : List ℕ = tagOf p entry size in
       each FoundBy (eqb (u32At t 0) (signatureOf Mab)) _ _ (λ _ f h. (l, refl))
@@ -82,7 +82,7 @@ module _ (walk : Walk) (limit : ℕ) (p : List ℕ) (entry size words : ℕ) whe
   pub found : (f : Abm) → lutOf walk limit p entry size words .state ≡ abm f → Found walk limit p entry size words
   unfolding lutOf
   found f h =
-      let w = each FoundBy (ltb (length p) (entry + sizeOf size)) _ _ (λ _ f h. let z : _≡_ {A = ℕ} 0 1 = cc in absurd (omega arith))
-      (λ l. each FoundBy (ltb (sizeOf size) 48) _ _ (λ _ f h. let z : _≡_ {A = ℕ} 0 1 = cc in absurd (omega arith))
-      (λ _. kind-found (ltb-false (length p) (entry + sizeOf size) l))) f h in
+      let w = each FoundBy (ltb (length p) (entry + countedSize size)) _ _ (λ _ f h. let z : _≡_ {A = ℕ} 0 1 = cc in absurd (omega arith))
+      (λ l. each FoundBy (ltb (countedSize size) 48) _ _ (λ _ f h. let z : _≡_ {A = ℕ} 0 1 = cc in absurd (omega arith))
+      (λ _. kind-found (ltb-false (length p) (entry + countedSize size) l))) f h in
       record { tag-in-profile = w .0; as-tag = w .1 }

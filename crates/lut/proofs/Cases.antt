@@ -11,10 +11,10 @@ use Rattle.run.specs.Run.{raised, entryAt, runAt, recordsOf}
 use Rattle.lut.specs.Abm.{tableOf, valueFrom, recordedOf, judgedOf, abmOf}
 use Rattle.lut.specs.Cases.{All, Holds, cases}
 use Rattle.lut.specs.Layout.{present, deviceChannels, spaceChannels, aCurves, mCurves, bCurves, planOf, recordsNeeded, gridOf, matrixOf, biasOf}
-use Rattle.lut.specs.Lut.{kindOf, lutOf}
+use Rattle.lut.specs.Lut.{byType, lutOf}
 use Rattle.lut.specs.Parts.{runsJudged, curvesOf, matrixJudged}
 use Rattle.lut.specs.Verdict.{ended}
 
 pub claim : All cases
-unfolding All Holds lutOf kindOf abmOf judgedOf recordedOf valueFrom tableOf product runsJudged curvesOf matrixJudged ended present deviceChannels spaceChannels aCurves mCurves bCurves planOf recordsNeeded gridOf matrixOf biasOf bytesAt wordsAt runAt entryAt raised recordsOf curveOf curvOf paraOf divides parameterCount sizeOf stepOf wordsOf signatureOf
+unfolding All Holds lutOf byType abmOf judgedOf recordedOf valueFrom tableOf product runsJudged curvesOf matrixJudged ended present deviceChannels spaceChannels aCurves mCurves bCurves planOf recordsNeeded gridOf matrixOf biasOf bytesAt wordsAt runAt entryAt raised recordsOf curveOf curvOf paraOf divides parameterCount sizeOf stepOf wordsOf signatureOf
 claim = ((refl, refl), ((refl, refl), ((refl, refl), ((refl, refl), ((refl, refl), tt)))))

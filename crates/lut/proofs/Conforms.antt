@@ -1,16 +1,16 @@
 -- Conformance to lutAToBType and lutBToAType on the book walk, both ways: a tag whose elements are laid out as the standard says, and keep
 -- within what this library asks besides, is accepted with its fields and its curves; and what is accepted is laid out so.
 -- Assumes nothing.
-use Prim.Native.Nat.{ℕ, _+_, _/_, _≤_, _<_}
+use Prim.Native.Nat.{ℕ, _+_, _/_, _≤_}
 use native.Mathlib.Omega.{arith}
-use mathlib.Core.Path.{_≡_, refl, sym, ap, _∙_, subst}
+use mathlib.Core.Path.{_≡_, refl, sym, ap, _∙_}
 use mathlib.Core.Bool.{Bool, true, false, cond, _&&_}
 use mathlib.Core.List.{List, [], _∷_, _++_}
 use mathlib.Core.Logic.{_⊎_, inl, inr}
 use lib.Dec.{ltb, eqb}
 use lib.ListN.{length, drop, length-drop}
-use borrow.Author.Tests.{eq-eqb, ne-eqb, eqb-true, eqb-false, le-ltb, ltb-false}
-use Rattle.clut.specs.Clut.{Seen, is, no, clutOf}
+use borrow.Author.Tests.{eq-eqb, ne-eqb, eqb-true, eqb-false, le-ltb}
+use Rattle.clut.specs.Clut.{is, clutOf}
 use Rattle.clut.specs.Table.{Table, lengthOf}
 use Rattle.clut.proofs.Conforms.{conforms as table-conforms, accepted as table-accepted}
 use Rattle.curve.specs.Curve.{curveOf}
@@ -19,15 +19,15 @@ use Rattle.curve.specs.Standard.{Laid, Within}
 use Rattle.curve.specs.declared.Walk.the-variants.{Book}
 use Rattle.curve.proofs.Conforms.{accepted as curve-accepted, laid as curve-laid}
 use Rattle.curve.proofs.Inside.{curve-inside, size-least, book-step}
-use Rattle.run.specs.Run.{Placed, End, whole, Ran, raised, entryAt, runAt, endOf, recordWords}
+use Rattle.run.specs.Run.{Placed, whole, raised, entryAt, runAt, endOf, recordWords}
 use Rattle.run.proofs.Runs.{Reads, run-reads, reads-run, run-count}
-use Rattle.lut.specs.Abm.{noTable, tableOf, valueFrom, recordedOf, judgedOf, withTable, abmOf}
-use Rattle.lut.specs.Answer.{Abm, abm, Answer}
+use Rattle.lut.specs.Abm.{noTable, tableOf, valueFrom, recordedOf, judgedOf, abmOf}
+use Rattle.lut.specs.Answer.{Abm, abm}
 use Rattle.lut.specs.Layout.{inputs, outputs, aOffset, mOffset, bOffset, matrixOffset, clutOffset, aCurves, mCurves, bCurves, planOf, recordsNeeded}
 use Rattle.lut.specs.Parts.{runA, runM, runB, runsJudged, curvesOf, matrixJudged}
 use Rattle.lut.specs.Standard.{Row, TableThere, TableNot, LaidOut}
-use Rattle.lut.specs.Verdict.{Judged, good, bad, ended}
-use Rattle.lut.proofs.Accepted.{Accepted, accepted}
+use Rattle.lut.specs.Verdict.{good, ended}
+use Rattle.lut.proofs.Accepted.{accepted}
 use Rattle.lut.proofs.Inside.{matrix-inside}
 use Rattle.lut.proofs.PartLaws.{a-whole, m-whole, b-whole}
 

@@ -1,28 +1,33 @@
--- Demand 1 of `mAB ` and `mBA `, on both walks: in an accepted answer each curve, the matrix and the colour table lie inside the tag, and
--- the tag inside the profile.
+-- Demand 1 of `mAB ` and `mBA `, on both walks: in an accepted answer each curve, the matrix and the colour table lie inside the tag, the
+-- tag lies inside the profile, and each valid grid index reads inside the colour table.
 -- Assumes nothing.
-use Prim.Native.Nat.{ℕ, _+_, _≤_}
+use Prim.Native.Nat.{ℕ, _+_, _*_, _≤_, _<_, min}
 use native.Mathlib.Omega.{arith}
 use mathlib.Core.Path.{_≡_, refl, sym, ap, _∙_, subst}
 use mathlib.Core.Bool.{Bool, true, false, cond}
 use mathlib.Core.List.{List, [], _∷_, _++_}
 use mathlib.Core.Logic.{_⊎_, inl, inr}
 use lib.Dec.{ltb, eqb}
-use lib.ListN.{length}
-use borrow.Author.Tests.{ltb-false, eqb-true, eqb-false}
-use Rattle.clut.specs.Clut.{Seen, is, no, clutOf}
-use Rattle.clut.specs.Table.{Table, product, lengthOf}
+use lib.ListN.{length, take, drop, replicate}
+use lib.Seq.{take-take}
+use borrow.Author.Tests.{ltb-false, eqb-true}
+use Rattle.fields.specs.Bytes.{bytesAt}
+use Rattle.fields.proofs.Words.{bytes-part}
+use Rattle.clut.specs.Clut.{is, clutOf}
+use Rattle.clut.specs.Table.{Table, lengthOf, inGrid, numberOf}
+use Rattle.clut.proofs.Conforms.{accepted as laid-out}
+use Rattle.clut.proofs.Grid.{entry-below}
 use Rattle.clut.proofs.Inside.{inside}
 use Rattle.curve.specs.declared.Walk.{Walk}
 use Rattle.run.specs.Run.{Placed, endOf, Each}
-use Rattle.run.proofs.Runs.{run-inside, run-count}
-use Rattle.lut.specs.Abm.{noTable, tableOf, valueFrom, abmOf}
+use Rattle.run.proofs.Runs.{run-inside}
+use Rattle.lut.specs.Abm.{noTable, tableOf, valueFrom, toldTable, abmOf}
 use Rattle.lut.specs.Answer.{Abm, abm, Answer}
-use Rattle.lut.specs.Layout.{inputs, outputs, matrixOffset, clutOffset, aOffset, mOffset, bOffset, aCurves, mCurves, bCurves, planOf, recordsNeeded}
-use Rattle.lut.specs.Lut.{sizeOf, tagOf, lutOf}
-use Rattle.lut.specs.Parts.{runA, runM, runB, runsJudged, curvesOf, matrixJudged}
-use Rattle.lut.specs.Verdict.{Judged, good, bad}
-use Rattle.lut.proofs.Accepted.{Accepted, accepted, found}
+use Rattle.lut.specs.Layout.{inputs, outputs, matrixOffset, clutOffset, aOffset, mOffset, bOffset, aCurves, mCurves, bCurves, planOf, gridOf}
+use Rattle.lut.specs.Lut.{countedSize, tagOf, lutOf}
+use Rattle.lut.specs.Parts.{curvesOf, matrixJudged}
+use Rattle.lut.specs.Verdict.{good, bad}
+use Rattle.lut.proofs.Accepted.{accepted, found}
 
 each-append : (P : Placed → Type 0) (k m : List Placed) → Each P k → Each P m → Each P (k ++ m)
 unfolding Each
@@ -57,14 +62,31 @@ table-inside t table = by (eqb (clutOffset t) 0)
     by true h = let e : noTable ≡ table = cc in subst (λ (x : Table). x .start + lengthOf x ≤ length t) e none
     by false h = inside t (clutOffset t) (inputs t) (outputs t) table h .data-in-tag
 
+-- a table that is there has the grid and the output channels that are answered
+table-told : (t : List ℕ) (table : Table) → tableOf t ≡ is table → 1 ≤ table .size → (take (min (inputs t) 16) (gridOf t) ≡ table .grid) × (outputs t ≡ table .outputs)
+unfolding tableOf gridOf
+table-told t table = by (eqb (clutOffset t) 0)
+  where
+    by : (b : Bool) → cond b (is noTable) (clutOf t (clutOffset t) (inputs t) (outputs t)) ≡ is table → 1 ≤ table .size → (take (min (inputs t) 16) (cond b (replicate 16 0) (bytesAt t (clutOffset t) 16)) ≡ table .grid) × (outputs t ≡ table .outputs)
+    by true h l = let e : 0 ≡ table .size = cc in absurd (omega arith)
+    by false h l =
+        let a = laid-out t (clutOffset t) (inputs t) (outputs t) table h .laid in
+        let room : clutOffset t + 16 ≤ length t = omega (arith, a .whole, a .start-is) in
+        let few : min (inputs t) 16 ≤ 16 = omega arith in
+        (ap (take (min (inputs t) 16)) (bytes-part t (clutOffset t) 16 room) ∙ take-take (min (inputs t) 16) 16 (drop (clutOffset t) t) few ∙ sym (a .grid-is), sym (a .outputs-are))
+
+told-length : (grid : List ℕ) (f : Abm) (table : Table) → take (min (f .inputs) 16) grid ≡ table .grid → f .outputs ≡ table .outputs → f .size ≡ table .size → lengthOf (toldTable grid f) ≡ lengthOf table
+told-length grid f table a b c = rw (a, b, c) refl
+
 -- told of the answer's own numbers
-pub record Inside (walk : Walk) (limit : ℕ) (p : List ℕ) (entry size words : ℕ) (f : Abm) : Type 0 where
-  pub tag-in-profile : entry + sizeOf size ≤ length p
+pub record Inside (walk : Walk) (limit : ℕ) (p : List ℕ) (entry size : ℕ) (grid : List ℕ) (f : Abm) : Type 0 where
+  pub tag-in-profile : entry + countedSize size ≤ length p
   pub curves-in-tag : Each (λ c. endOf c ≤ length (tagOf p entry size)) (curvesOf walk limit (tagOf p entry size) (planOf (tagOf p entry size)))
   pub matrix-in-tag : (matrixOffset (tagOf p entry size) ≡ 0) ⊎ (matrixOffset (tagOf p entry size) + 48 ≤ length (tagOf p entry size))
   pub table-in-tag : f .start + f .bytes ≤ length (tagOf p entry size)
+  pub entry-in-table : 1 ≤ f .size → (index : List ℕ) (channel : ℕ) → inGrid (toldTable grid f .grid) index ≡ true → channel < f .outputs → numberOf (toldTable grid f) index channel * f .size + f .size ≤ f .bytes
 
-pub lut-inside : (walk : Walk) (limit : ℕ) (p : List ℕ) (entry size words : ℕ) (f : Abm) → lutOf walk limit p entry size words .state ≡ abm f → Inside walk limit p entry size words f
+pub lut-inside : (walk : Walk) (limit : ℕ) (p : List ℕ) (entry size words : ℕ) (f : Abm) → lutOf walk limit p entry size words .state ≡ abm f → Inside walk limit p entry size (lutOf walk limit p entry size words .grid) f
 unfolding valueFrom
 lut-inside walk limit p entry size words f h =
     let t : List ℕ = tagOf p entry size in
@@ -74,9 +96,19 @@ lut-inside walk limit p entry size words f h =
     let e : abm f ≡ valueFrom t (v .table .start) (lengthOf (v .table)) (v .table .size) .state = sym g ∙ ap (λ (a : Answer). a .state) (v .answer-is) in
     let e₁ : f .start ≡ v .table .start = cc in
     let e₂ : f .bytes ≡ lengthOf (v .table) = cc in
+    let e₃ : f .size ≡ v .table .size = cc in
+    let e₄ : f .inputs ≡ inputs t = cc in
+    let e₅ : f .outputs ≡ outputs t = cc in
+    let grid : List ℕ = lutOf walk limit p entry size words .grid in
+    let g₁ : grid ≡ gridOf t = ap (λ (a : Answer). a .grid) (w .as-tag ∙ v .answer-is) in
+    let told : 1 ≤ f .size → lengthOf (toldTable grid f) ≡ f .bytes =
+    λ l. let k = table-told t (v .table) (v .table-is) (omega (arith, e₃)) in
+    let same : take (min (f .inputs) 16) grid ≡ take (min (inputs t) 16) (gridOf t) = cc in
+    told-length grid f (v .table) (same ∙ k .0) (e₅ ∙ k .1) e₃ ∙ sym e₂ in
     record {
       tag-in-profile = w .tag-in-profile;
       curves-in-tag = curves-inside walk limit t;
       matrix-in-tag = matrix-inside t (v .matrix-good);
       table-in-tag = omega (arith, e₁, e₂, table-inside t (v .table) (v .table-is));
+      entry-in-table = λ l index channel valid low. omega (arith, entry-below (toldTable grid f) index channel valid low, told l);
     }

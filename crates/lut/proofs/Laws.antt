@@ -1,12 +1,12 @@
 -- The reader of lookup tables, case by case, as the code meets it: each law gives what is answered and what is left of the slots.
 -- Assumes nothing.
 use Prim.Native.Nat.{ℕ, _+_, _-_, _*_, _/_, _^_, _≤_, _<_}
-use native.Mathlib.Nat.{div-lt-iff-lt-mul, le-div-iff-mul-le}
+use native.Mathlib.Nat.{le-div-iff-mul-le}
 use native.Mathlib.Omega.{arith}
 use mathlib.Core.Path.{_≡_, refl, sym, _∙_, ap}
 use mathlib.Core.Bool.{Bool, true, false, _&&_}
 use mathlib.Core.List.{List, [], _∷_, _++_}
-use lib.Dec.{ltb, leb}
+use lib.Dec.{ltb}
 use lib.ListN.{length, getD, take, drop, length-take}
 use types.Run.{OneOf}
 use denote.Enum.Declared.{tagOf as placeIn}
@@ -16,7 +16,7 @@ use Rattle.fields.specs.Place.{placeOf}
 use Rattle.fields.specs.Refusals.{numberOf}
 use Rattle.fields.specs.Tag.{signatureOf, kindOf as namedBy}
 use Rattle.fields.specs.declared.Kind.{Kind}
-use Rattle.fields.specs.declared.Kind.the-variants.{Mab, Mba, Other}
+use Rattle.fields.specs.declared.Kind.the-variants.{Mab, Mba}
 use Rattle.fields.specs.declared.Place.{Place}
 use Rattle.fields.specs.declared.Place.the-variants.{In, Past}
 use Rattle.fields.specs.declared.Refusal.{Refusal}
@@ -25,17 +25,17 @@ use Rattle.fields.proofs.Located.{inside, past, part-is}
 use Rattle.fields.proofs.Signatures.{arm, unlike, others}
 use Rattle.clut.specs.Answer.{paper as clutPaper, toldOf, Told, value as clutValue, refused as clutRefused}
 use Rattle.clut.specs.Clut.{Seen, is, no, clutOf}
-use Rattle.clut.specs.Table.{Table, product, pointsOf, lengthOf}
+use Rattle.clut.specs.Table.{product, lengthOf}
 use Rattle.clut.specs.declared.ClutAnswer.{ClutAnswer}
 use Rattle.clut.specs.declared.ColourTable.{ColourTable}
 use Rattle.curve.specs.declared.Walk.{Walk}
 use Rattle.run.specs.Run.{recordWords, recordsOf}
 use Rattle.lut.specs.Abm.{tableOf, valueFrom, recordedOf, judgedOf, withTable, abmOf}
-use Rattle.lut.specs.Answer.{abm, absent, refused, Answer, none, refuse, paper, orRefused}
-use Rattle.lut.specs.Layout.{toPcs, inputs, outputs, aCurves, mCurves, bCurves, planOf, Planned, recordsNeeded, gridOf, matrixOf, biasOf}
-use Rattle.lut.specs.Lut.{Said, sizeOf, tagOf, kindOf, lutOf}
+use Rattle.lut.specs.Answer.{abm, Answer, none, refuse, paper}
+use Rattle.lut.specs.Layout.{toPcs, inputs, outputs, planOf, Planned, recordsNeeded, gridOf, matrixOf, biasOf}
+use Rattle.lut.specs.Lut.{Said, countedSize, tagOf, byType, lutOf}
 use Rattle.lut.specs.Parts.{runsJudged, curvesOf, matrixJudged}
-use Rattle.lut.specs.Verdict.{Judged, good, bad, judgedFrom}
+use Rattle.lut.specs.Verdict.{good, judgedFrom}
 use Rattle.lut.specs.declared.abm.Lut.{Lut}
 use Rattle.lut.specs.declared.abm.Plan.{Plan}
 use Rattle.lut.specs.declared.nested.Verdict.{Verdict}
@@ -165,28 +165,28 @@ unfolding signatureOf
 mab-mba e = omega arith
 
 module _ (walk : Walk) (limit : ℕ) (t s : List ℕ) (k : Kind) (h : k ≡ namedBy (u32At t 0)) (r : Lut) where
-  pub kind-mab : k ≡ Mab → (s' : List ℕ) → Said walk limit t (abmOf walk limit t (length s)) r s s' → Said walk limit t (kindOf walk limit t (length s)) r s s'
-  unfolding kindOf
+  pub kind-mab : k ≡ Mab → (s' : List ℕ) → Said walk limit t (abmOf walk limit t (length s)) r s s' → Said walk limit t (byType walk limit t (length s)) r s s'
+  unfolding byType
   kind-mab e s' g =
       let i : u32At t 0 ≡ signatureOf Mab = arm _ Mab (λ o. let z : _≡_ {A = ℕ} 0 1 = cc in omega arith) h e in
       same walk limit t s _ r _ s' (rw (eq-eqb _ _ i)) g
 
-  pub kind-mba : k ≡ Mba → (s' : List ℕ) → Said walk limit t (abmOf walk limit t (length s)) r s s' → Said walk limit t (kindOf walk limit t (length s)) r s s'
-  unfolding kindOf
+  pub kind-mba : k ≡ Mba → (s' : List ℕ) → Said walk limit t (abmOf walk limit t (length s)) r s s' → Said walk limit t (byType walk limit t (length s)) r s s'
+  unfolding byType
   kind-mba e s' g =
       let i : u32At t 0 ≡ signatureOf Mba = arm _ Mba (λ o. let z : _≡_ {A = ℕ} 0 1 = cc in omega arith) h e in
       let n : u32At t 0 ≡ signatureOf Mab → ⊥ = λ m. mab-mba (sym i ∙ m) in
       same walk limit t s _ r _ s' (rw (ne-eqb _ _ n, eq-eqb _ _ i)) g
 
-  pub kind-other : OneOf (others (Mab ∷ Mba ∷ [])) (placeIn kinds.the-type k) → paper r ≡ refuse 3 → Said walk limit t (kindOf walk limit t (length s)) r s s
-  unfolding kindOf
+  pub kind-other : OneOf (others (Mab ∷ Mba ∷ [])) (placeIn kinds.the-type k) → paper r ≡ refuse 3 → Said walk limit t (byType walk limit t (length s)) r s s
+  unfolding byType
   kind-other o g =
       let rest = others (Mab ∷ Mba ∷ []) in
       refusing walk limit t s _ r 3 (rw (ne-eqb _ _ (unlike _ Mab rest refl h o), ne-eqb _ _ (unlike _ Mba rest refl h o))) g
 
 -- ---- the tag in its profile
 
-module _ (walk : Walk) (limit : ℕ) (p s : List ℕ) (entry size end : ℕ) (n : end ≡ sizeOf size) (place : Place) (h : place ≡ placeOf (length p) entry end) (r : Lut) where
+module _ (walk : Walk) (limit : ℕ) (p s : List ℕ) (entry size end : ℕ) (n : end ≡ countedSize size) (place : Place) (h : place ≡ placeOf (length p) entry end) (r : Lut) where
   pub lut-past : place ≡ Past → paper r ≡ refuse 1 → Said walk limit (tagOf p entry size) (lutOf walk limit p entry size (length s)) r s s
   unfolding lutOf
   lut-past e g = refusing walk limit _ s _ r 1 (rw (← n, lt-ltb _ _ (past _ _ _ h e))) g
@@ -196,7 +196,7 @@ module _ (walk : Walk) (limit : ℕ) (p s : List ℕ) (entry size end : ℕ) (n 
     unfolding lutOf
     lut-short l g = let i = inside _ _ _ h e in refusing walk limit _ s _ r 2 (rw (← n, le-ltb _ _ (i .fits), lt-ltb _ _ l)) g
 
-    pub lut-kind : 48 ≤ end → (s' : List ℕ) → Said walk limit (take (to - from) (drop from p)) (kindOf walk limit (take (to - from) (drop from p)) (length s)) r s s' → Said walk limit (tagOf p entry size) (lutOf walk limit p entry size (length s)) r s s'
+    pub lut-kind : 48 ≤ end → (s' : List ℕ) → Said walk limit (take (to - from) (drop from p)) (byType walk limit (take (to - from) (drop from p)) (length s)) r s s' → Said walk limit (tagOf p entry size) (lutOf walk limit p entry size (length s)) r s s'
     unfolding lutOf
     lut-kind l s' g =
         let i = inside _ _ _ h e in

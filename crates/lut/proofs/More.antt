@@ -1,14 +1,14 @@
 -- Demand 3 of lookup tables. Bytes behind the profile keep every answer but refusal 1; a higher limit every one but refusal 10; more slots
 -- every one but refusal 14. A value keeps its records too.
 -- Assumes nothing.
-use Prim.Native.Nat.{ℕ, _+_, _/_, _≤_, _<_}
+use Prim.Native.Nat.{ℕ, _+_, _/_, _≤_}
 use native.Mathlib.Omega.{arith}
 use mathlib.Core.Path.{_≡_, refl, sym, ap, _∙_}
-use mathlib.Core.Bool.{Bool, true, false, cond, _&&_}
+use mathlib.Core.Bool.{_&&_}
 use mathlib.Core.List.{List, _++_}
-use mathlib.Core.Logic.{_⊎_, inl, inr}
+use mathlib.Core.Logic.{inl, inr}
 use lib.Dec.{ltb, eqb}
-use lib.ListN.{length, take, drop}
+use lib.ListN.{length}
 use borrow.Author.Tests.{ltb-false, le-ltb}
 use Rattle.fields.specs.Bytes.{u32At}
 use Rattle.fields.specs.Tag.{signatureOf}
@@ -23,7 +23,7 @@ use Rattle.run.proofs.Limit.{Over, run-limit}
 use Rattle.lut.specs.Abm.{tableOf, recordedOf, judgedOf, withTable, abmOf}
 use Rattle.lut.specs.Answer.{Abm, abm, refused, Answer, orRefused}
 use Rattle.lut.specs.Layout.{inputs, outputs, planOf, recordsNeeded}
-use Rattle.lut.specs.Lut.{sizeOf, tagOf, kindOf, lutOf}
+use Rattle.lut.specs.Lut.{countedSize, tagOf, byType, lutOf}
 use Rattle.lut.specs.Parts.{runA, runM, runB, runsJudged, curvesOf, matrixJudged}
 use Rattle.lut.specs.Verdict.{Judged, good, bad, ended, andThen}
 use Rattle.lut.specs.declared.abm.Plan.{Plan}
@@ -39,12 +39,12 @@ Is n a = a .state ≡ refused n
 pub more-bytes : (walk : Walk) (limit : ℕ) (p q : List ℕ) (entry size words : ℕ) → Grows (Is 1) (lutOf walk limit p entry size words) (lutOf walk limit (p ++ q) entry size words)
 unfolding lutOf
 more-bytes walk limit p q entry size words =
-    passes (Is 1) (ltb (length p) (entry + sizeOf size)) (ltb (length (p ++ q)) (entry + sizeOf size)) (longer p q (entry + sizeOf size)) refl
-    (λ e. choose (Is 1) (ltb (sizeOf size) 48) (λ _. inr refl)
-    (λ _. rw (part-append p q entry (sizeOf size) (ltb-false (length p) (entry + sizeOf size) e)) (inr refl)))
+    passes (Is 1) (ltb (length p) (entry + countedSize size)) (ltb (length (p ++ q)) (entry + countedSize size)) (longer p q (entry + countedSize size)) refl
+    (λ e. choose (Is 1) (ltb (countedSize size) 48) (λ _. inr refl)
+    (λ _. rw (part-append p q entry (countedSize size) (ltb-false (length p) (entry + countedSize size) e)) (inr refl)))
 
-same-tag : (p q : List ℕ) (entry size : ℕ) → entry + sizeOf size ≤ length p → tagOf (p ++ q) entry size ≡ tagOf p entry size
-same-tag p q entry size h = part-append p q entry (sizeOf size) h
+same-tag : (p q : List ℕ) (entry size : ℕ) → entry + countedSize size ≤ length p → tagOf (p ++ q) entry size ≡ tagOf p entry size
+same-tag p q entry size h = part-append p q entry (countedSize size) h
 
 -- ---- a higher limit
 
@@ -95,11 +95,11 @@ module _ (walk : Walk) (low high : ℕ) (h : low ≤ high) where
       (λ _. before 10 (matrixJudged t) _ _ (table-before 10 walk walk low high t words words (tableOf t) (judged-limit t words)))
 
   pub more-limit : (p : List ℕ) (entry size words : ℕ) → Grows (Is 10) (lutOf walk low p entry size words) (lutOf walk high p entry size words)
-  unfolding lutOf kindOf
+  unfolding lutOf byType
   more-limit p entry size words =
       let t : List ℕ = tagOf p entry size in
-      choose (Is 10) (ltb (length p) (entry + sizeOf size)) (λ _. inr refl)
-      (λ _. choose (Is 10) (ltb (sizeOf size) 48) (λ _. inr refl)
+      choose (Is 10) (ltb (length p) (entry + countedSize size)) (λ _. inr refl)
+      (λ _. choose (Is 10) (ltb (countedSize size) 48) (λ _. inr refl)
       (λ _. choose (Is 10) (eqb (u32At t 0) (signatureOf Mab)) (λ _. abm-limit t words)
       (λ _. choose (Is 10) (eqb (u32At t 0) (signatureOf Mba)) (λ _. abm-limit t words) (λ _. inr refl))))
 
@@ -123,11 +123,11 @@ module _ (walk : Walk) (limit few many : ℕ) (h : few ≤ many) where
       (λ _. before 14 (matrixJudged t) _ _ (table-before 14 walk walk limit limit t few many (tableOf t) (judged-slots t)))
 
   pub more-slots : (p : List ℕ) (entry size : ℕ) → Grows (Is 14) (lutOf walk limit p entry size few) (lutOf walk limit p entry size many)
-  unfolding lutOf kindOf
+  unfolding lutOf byType
   more-slots p entry size =
       let t : List ℕ = tagOf p entry size in
-      choose (Is 14) (ltb (length p) (entry + sizeOf size)) (λ _. inr refl)
-      (λ _. choose (Is 14) (ltb (sizeOf size) 48) (λ _. inr refl)
+      choose (Is 14) (ltb (length p) (entry + countedSize size)) (λ _. inr refl)
+      (λ _. choose (Is 14) (ltb (countedSize size) 48) (λ _. inr refl)
       (λ _. choose (Is 14) (eqb (u32At t 0) (signatureOf Mab)) (λ _. abm-slots t)
       (λ _. choose (Is 14) (eqb (u32At t 0) (signatureOf Mba)) (λ _. abm-slots t) (λ _. inr refl))))
 

@@ -1,17 +1,16 @@
 -- How many records a tag needs: the number is that of the curves read, at most 514, and the first 32 bytes tell it.
 -- Assumes nothing.
-use Prim.Native.Nat.{ℕ, _+_, _*_, _≤_, _<_}
+use Prim.Native.Nat.{ℕ, _+_, _≤_, _<_}
 use native.Mathlib.Omega.{arith}
-use mathlib.Core.Path.{_≡_, refl, ap, _∙_}
+use mathlib.Core.Path.{_≡_, refl}
 use mathlib.Core.Bool.{Bool, true, false, cond, _&&_}
 use mathlib.Core.List.{List, _++_}
 use lib.Dec.{ltb, eqb}
-use lib.ListN.{length, getD, length-append, List·getD-append}
-use borrow.Author.Tests.{ltb-false, ltb-true}
+use lib.ListN.{length, length-append, List·getD-append}
+use borrow.Author.Tests.{ltb-false}
 use Rattle.fields.proofs.Append.{u32-append}
 use Rattle.fields.proofs.Choice.{each, second-fails}
 use Rattle.curve.specs.declared.Walk.{Walk}
-use Rattle.run.specs.Run.{runAt}
 use Rattle.run.proofs.Runs.{run-count}
 use Rattle.lut.specs.Layout.{toPcs, inputs, outputs, present, deviceChannels, spaceChannels, aOffset, mOffset, bOffset, aCurves, mCurves, bCurves, planOf, recordsNeeded}
 use Rattle.lut.specs.Parts.{runsJudged, curvesOf}

@@ -1,6 +1,6 @@
 -- The parts of a tag, case by case, as the code meets them.
 -- Assumes nothing.
-use Prim.Native.Nat.{ℕ, _+_, _-_, _*_, _^_, _≤_, _<_}
+use Prim.Native.Nat.{ℕ, _+_, _-_, _*_, _≤_, _<_}
 use native.Mathlib.Omega.{arith}
 use mathlib.Core.Path.{_≡_, refl, sym, _∙_, ap}
 use mathlib.Core.Bool.{Bool, true, false}
@@ -15,10 +15,10 @@ use Rattle.fields.specs.Bytes.{u32At, bytesAt, wordsAt}
 use Rattle.fields.proofs.Stores.{sets-append, front, rejoined, fill-begins, fill-turns, fill-ends}
 use Rattle.fields.proofs.Words.{word-at, words-length, byte-at, bytes-length}
 use Rattle.curve.specs.declared.Walk.{Walk}
-use Rattle.run.specs.Run.{Placed, End, whole, stopped, Ran, runAt, recordWords, recordsOf}
+use Rattle.run.specs.Run.{End, whole, stopped, Ran, runAt, recordWords, recordsOf}
 use Rattle.run.proofs.Runs.{run-count}
 use Rattle.run.proofs.Writing.{records-length, records-append}
-use Rattle.lut.specs.Layout.{toPcs, inputs, outputs, deviceChannels, spaceChannels, present, Few, aOffset, mOffset, bOffset, matrixOffset, clutOffset, aCurves, mCurves, bCurves, planOf, Planned, identity, matrixOf, biasOf, gridOf}
+use Rattle.lut.specs.Layout.{toPcs, deviceChannels, spaceChannels, present, Few, aCurves, mCurves, bCurves, planOf, Planned, identity, matrixOf, biasOf, gridOf}
 use Rattle.lut.specs.Parts.{runA, runM, runB, runsJudged, curvesOf, matrixJudged}
 use Rattle.lut.specs.Verdict.{Judged, good, bad, judgedFrom, ended, andThen}
 use Rattle.lut.specs.declared.abm.Plan.{Plan}

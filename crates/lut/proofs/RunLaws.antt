@@ -1,6 +1,6 @@
 -- The run, case by case, as the code meets it. What is left of the run ends as the whole does: that is the loop's invariant.
 -- Assumes nothing.
-use Prim.Native.Nat.{ℕ, zero, suc, _+_, _-_, _*_, _^_, _≤_, _<_}
+use Prim.Native.Nat.{ℕ, suc, _+_, _-_, _*_, _^_, _≤_, _<_}
 use native.Mathlib.Omega.{arith}
 use native.Mathlib.Nat.{sub-zero}
 use mathlib.Core.Path.{_≡_, refl, sym, _∙_, ap}
@@ -14,18 +14,18 @@ use borrow.Author.Tests.{lt-ltb, le-ltb}
 use Rattle.fields.specs.Refusals.{numberOf}
 use Rattle.fields.specs.declared.Refusal.{Refusal}
 use Rattle.fields.proofs.Located.{rest-is}
-use Rattle.curve.specs.Answer.{Answer, value, absent, refused, words, paper, answerOf}
+use Rattle.curve.specs.Answer.{Answer, refused, words, paper, answerOf}
 use Rattle.curve.specs.Curve.{curveOf}
-use Rattle.curve.specs.Shape.{Shape, Seen, is, no, sizeOf, stepOf}
+use Rattle.curve.specs.Shape.{Shape, Seen, stepOf}
 use Rattle.curve.specs.declared.CurveAnswer.{CurveAnswer}
 use Rattle.curve.specs.declared.CurveRecord.{CurveRecord}
 use Rattle.curve.specs.declared.Walk.{Walk}
 use Rattle.curve.proofs.CurveAnswer as answers
 use Rattle.curve.proofs.Inside.{step-most}
-use Rattle.run.specs.Run.{End, whole, stopped, Ran, raised, entryAt, follow, runAt, recordWords}
+use Rattle.run.specs.Run.{Ran, raised, entryAt, follow, runAt, recordWords}
 use Rattle.run.proofs.Runs.{entry-inside, run-turn}
 use Rattle.run.proofs.Writing.{told, told-no, told-present, Writing, turns, never}
-use Rattle.lut.specs.Verdict.{Judged, good, bad, judgedFrom, ended, curveJudged}
+use Rattle.lut.specs.Verdict.{good, bad, judgedFrom, ended, curveJudged}
 use Rattle.lut.specs.declared.nested.Verdict.{Verdict}
 
 -- ---- a curve of a run

@@ -1,13 +1,14 @@
 -- `mAB ` and `mBA `: what each call must answer.
-use Prim.Native.Nat.{ℕ, _/_}
+use Prim.Native.Nat.{ℕ, _/_, min}
 use mathlib.Core.Bool.{cond, _&&_}
 use mathlib.Core.List.{List, []}
 use lib.Dec.{ltb, eqb}
+use lib.ListN.{take}
 use Rattle.clut.specs.Clut.{Seen, is, no, clutOf}
 use Rattle.clut.specs.Table.{Table, lengthOf}
 use Rattle.curve.specs.declared.Walk.{Walk}
 use Rattle.run.specs.Run.{recordWords}
-use Rattle.lut.specs.Answer.{abm, Answer, none, refuse, orRefused}
+use Rattle.lut.specs.Answer.{Abm, abm, Answer, none, refuse, orRefused}
 use Rattle.lut.specs.Layout.{toPcs, inputs, outputs, clutOffset, aCurves, mCurves, bCurves, planOf, recordsNeeded, gridOf, matrixOf, biasOf}
 use Rattle.lut.specs.Parts.{runsJudged, matrixJudged}
 
@@ -39,6 +40,10 @@ valueFrom t start bytes size =
       matrix = matrixOf t;
       bias = biasOf t;
     }
+
+-- the colour table that an answer tells of, by its grid bytes, one for each input channel, and its numbers
+abbrev pub toldTable : List ℕ → Abm → Table
+toldTable grid f = record { grid = take (min (f .inputs) 16) grid; outputs = f .outputs; start = f .start; size = f .size }
 
 -- what is answered once the runs are good, with so many words lent
 unfoldable pub recordedOf : List ℕ → ℕ → ℕ → ℕ → ℕ → Answer

@@ -18,15 +18,15 @@ use Rattle.lut.specs.Parts.{curvesOf}
 use Rattle.lut.specs.declared.abm.Lut.{Lut}
 
 -- a size of 0 counts as the shortest tag's
-abbrev pub sizeOf : ℕ → ℕ
-sizeOf size = cond (eqb size 0) tagSize size
+abbrev pub countedSize : ℕ → ℕ
+countedSize size = cond (eqb size 0) tagSize size
 
 abbrev pub tagOf : List ℕ → ℕ → ℕ → List ℕ
-tagOf profile entry size = take (sizeOf size) (drop entry profile)
+tagOf profile entry size = take (countedSize size) (drop entry profile)
 
 -- by the type of the tag t
-unfoldable pub kindOf : Walk → ℕ → List ℕ → ℕ → Answer
-kindOf walk limit t words =
+unfoldable pub byType : Walk → ℕ → List ℕ → ℕ → Answer
+byType walk limit t words =
     cond (eqb (u32At t 0) (signatureOf Mab)) (abmOf walk limit t words) (
     cond (eqb (u32At t 0) (signatureOf Mba)) (abmOf walk limit t words) (
     refuse 3))
@@ -34,9 +34,9 @@ kindOf walk limit t words =
 -- the tag of a profile, with so many words lent
 unfoldable pub lutOf : Walk → ℕ → List ℕ → ℕ → ℕ → ℕ → Answer
 lutOf walk limit profile entry size words =
-    cond (ltb (length profile) (entry + sizeOf size)) (refuse 1) (
-    cond (ltb (sizeOf size) 48) (refuse 2) (
-    kindOf walk limit (tagOf profile entry size) words))
+    cond (ltb (length profile) (entry + countedSize size)) (refuse 1) (
+    cond (ltb (countedSize size) 48) (refuse 2) (
+    byType walk limit (tagOf profile entry size) words))
 
 -- what a call answers, and what it leaves of the lent slots
 pub record Said (walk : Walk) (limit : ℕ) (t : List ℕ) (answer : Answer) (r : Lut) (before after : List ℕ) : Type 0 where

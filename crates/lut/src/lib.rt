@@ -16,12 +16,12 @@ pub use nested::RECORD_WORDS;
 ghost use mathlib.Core.Path.{_≡_};
 ghost use lib.ListN.{length};
 ghost use Prim.Native.Nat.{_^_, _<_};
-ghost use Rattle.lut.specs.Lut.{Said, sizeOf, tagOf, kindOf, lutOf};
+ghost use Rattle.lut.specs.Lut.{Said, countedSize, tagOf, byType, lutOf};
 
 // By the type of the tag.
 fn read_kind(tag: &[u8], limit: u64, walk: Walk, slots: &mut [u32]) -> Lut
     requires { ⌜ length (now tag) < 2 ^ 32 ⌝ }
-    ensures { λ r. ⌜ Said walk limit (now (tag .entry)) (kindOf walk limit (now (tag .entry)) (length (now (slots .entry)))) r (now (slots .entry)) (now (slots .exit)) ⌝ }
+    ensures { λ r. ⌜ Said walk limit (now (tag .entry)) (byType walk limit (now (tag .entry)) (length (now (slots .entry)))) r (now (slots .entry)) (now (slots .exit)) ⌝ }
 {
     match fields::kind_at(tag, InTag(0)) {
         Kind::Mab => abm::read_lut_abm_type(tag, limit, walk, slots),
@@ -32,7 +32,7 @@ fn read_kind(tag: &[u8], limit: u64, walk: Walk, slots: &mut [u32]) -> Lut
 
 // A size of 0 counts as 12.
 fn counted(size: u32) -> u32
-    ensures { λ r. ⌜ r ≡ sizeOf size ⌝ }
+    ensures { λ r. ⌜ r ≡ countedSize size ⌝ }
 {
     if size == 0 { TAG_SIZE } else { size }
 }

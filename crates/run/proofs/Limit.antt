@@ -1,17 +1,17 @@
 -- Demand 3 of a run: a higher limit keeps it, unless it stops with refusal 10.
 -- Assumes nothing.
-use Prim.Native.Nat.{ℕ, zero, suc, _+_, _≤_}
+use Prim.Native.Nat.{ℕ, suc, _+_, _≤_}
 use native.Mathlib.Omega.{arith}
-use mathlib.Core.Path.{_≡_, refl, sym, _∙_, ap}
+use mathlib.Core.Path.{_≡_, refl, _∙_}
 use mathlib.Core.List.{List}
-use mathlib.Core.Logic.{_⊎_, inl, inr}
+use mathlib.Core.Logic.{inl, inr}
 use lib.Dec.{ltb}
 use lib.ListN.{length, drop}
 use Rattle.fields.proofs.Grow.{Grows, choose}
-use Rattle.curve.specs.Shape.{Shape, Seen, is, no, stepOf}
+use Rattle.curve.specs.Shape.{Shape, is, no, stepOf}
 use Rattle.curve.specs.declared.Walk.{Walk}
 use Rattle.curve.proofs.More.{No, curve-limit}
-use Rattle.run.specs.Run.{End, stopped, Ran, placed, stops, first, raised, entryAt, runAt}
+use Rattle.run.specs.Run.{stopped, Ran, placed, stops, first, raised, entryAt, runAt}
 use Rattle.run.proofs.Runs.{run-induct}
 
 -- stops with refusal 10, at some curve

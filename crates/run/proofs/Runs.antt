@@ -2,7 +2,7 @@
 -- Assumes nothing.
 use Prim.Native.Nat.{ℕ, zero, suc, _+_, _≤_}
 use native.Mathlib.Omega.{arith}
-use mathlib.Core.Path.{_≡_, refl, sym, _∙_, ap}
+use mathlib.Core.Path.{_≡_, refl, ap}
 use mathlib.Core.Bool.{Bool, true, false, cond}
 use mathlib.Core.List.{List, [], _∷_}
 use lib.Dec.{ltb}
@@ -12,7 +12,7 @@ use Rattle.curve.specs.Curve.{curveOf}
 use Rattle.curve.specs.Shape.{Shape, Seen, is, no, sizeOf, stepOf}
 use Rattle.curve.specs.declared.Walk.{Walk}
 use Rattle.curve.proofs.Inside.{curve-inside}
-use Rattle.run.specs.Run.{Placed, End, whole, stopped, Ran, placed, done, stops, first, raised, entryAt, follow, runAt, endOf, Each}
+use Rattle.run.specs.Run.{Placed, whole, Ran, placed, done, stops, first, raised, entryAt, follow, runAt, endOf, Each}
 
 -- a curve that is seen at an offset of the tag ends inside the tag
 pub entry-inside : (limit : ℕ) (t : List ℕ) (at : ℕ) (s : Shape) → entryAt limit t at ≡ is s → at + sizeOf s ≤ length t

@@ -1,6 +1,6 @@
 -- What a curve reader's answer tells of a run, and what holds while a whole run is written into lent slots.
 -- Assumes nothing.
-use Prim.Native.Nat.{ℕ, zero, suc, _+_, _-_, _*_, _≤_, _<_}
+use Prim.Native.Nat.{ℕ, suc, _+_, _-_, _*_, _≤_, _<_}
 use native.Mathlib.Omega.{arith}
 use native.Mathlib.Nat.{sub-zero, zero-add}
 use mathlib.Core.Path.{_≡_, refl, sym, _∙_, ap}
@@ -8,10 +8,10 @@ use mathlib.Core.List.{List, [], _∷_, _++_, append-assoc}
 use lib.ListN.{length, drop, length-append}
 use lib.Seq.{sets, sets-eq, length-sets}
 use Rattle.fields.proofs.Stores.{sets-append}
-use Rattle.curve.specs.Answer.{Answer, value, absent, refused, answerOf}
+use Rattle.curve.specs.Answer.{value, absent, refused, answerOf}
 use Rattle.curve.specs.Shape.{Shape, empty, table, para, Seen, is, no, stepOf, wordsOf}
 use Rattle.curve.specs.declared.Walk.{Walk}
-use Rattle.run.specs.Run.{Placed, End, whole, stopped, Ran, placed, first, raised, entryAt, runAt, recordWords, recordsOf}
+use Rattle.run.specs.Run.{Placed, whole, Ran, placed, first, raised, entryAt, runAt, recordWords, recordsOf}
 use Rattle.run.proofs.Runs.{run-turn, run-count}
 
 -- ---- what an answer tells

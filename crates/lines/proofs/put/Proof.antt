@@ -1,7 +1,6 @@
 -- `lines::put` meets its contract: what is left to write makes of the buffer what all the bytes make of it.
 -- Assumes nothing.
 use Prim.Native.Nat.{_-_}
-use native.Mathlib.Omega.{arith}
 use lib.ListN.{length}
 use borrow.Author.Needs.{needs}
 use Rattle.lines.proofs.Writing.{Writing, begins, turns, full, done}

@@ -1,7 +1,6 @@
--- `lut::counted` meets its contract: each arm is a test of `sizeOf`.
+-- `lut::counted` meets its contract: each arm is a test of `countedSize`.
 -- Assumes nothing.
 use borrow.Author.Tests.{eq-eqb, ne-eqb}
-use borrow.Author.Needs.{needs}
 use Rattle.lut.proofs.counted.Statement.{statement}
 use Rattle.lut.proofs.counted.Tie as tie
 

@@ -1,4 +1,4 @@
--- `lut::read_kind` meets its contract: each way out is a law of `kindOf`.
+-- `lut::read_kind` meets its contract: each way out is a law of `byType`.
 -- Assumes nothing.
 use Rattle.lut.proofs.Laws.{kind-mab, kind-mba, kind-other}
 use borrow.Author.Needs.{needs}

@@ -1,6 +1,6 @@
 -- `lut::abm::write_records` meets its contract: refused where the slots are too few, and else written.
 -- Assumes nothing.
-use Rattle.lut.proofs.Laws.{record-short, record-room, record-written}
+use Rattle.lut.proofs.Laws.{record-short, record-written}
 use borrow.Author.Needs.{needs}
 use Rattle.lut.proofs.abm.write_records.Statement.{statement}
 use Rattle.lut.proofs.abm.write_records.Tie as tie

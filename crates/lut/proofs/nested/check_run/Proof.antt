@@ -1,9 +1,8 @@
 -- `lut::nested::check_run` meets its contract: what is left of the run ends as the whole does.
 -- Assumes nothing.
-use Prim.Native.Nat.{_+_, _-_, _^_, _≤_, _<_}
+use Prim.Native.Nat.{_-_, _≤_}
 use native.Mathlib.Omega.{arith}
 use mathlib.Core.Path.{_≡_}
-use lib.ListN.{length}
 use borrow.Author.Needs.{needs}
 use Rattle.run.specs.Run.{runAt}
 use Rattle.lut.proofs.RunLaws.{near, run-start, run-stop, run-again, run-done}

@@ -1,9 +1,6 @@
 -- `lut::nested::write_run` meets its contract: what is left to write makes of the slots what the whole run makes of them.
 -- Assumes nothing.
-use Prim.Native.Nat.{_+_, _-_, _*_, _^_, _≤_, _<_}
-use native.Mathlib.Omega.{arith}
-use mathlib.Core.Path.{_≡_}
-use lib.ListN.{length}
+use Prim.Native.Nat.{_-_}
 use borrow.Author.Needs.{needs}
 use Rattle.run.proofs.Writing.{Writing, begins, ends}
 use Rattle.lut.proofs.RunLaws.{near, write-turn, write-never}
