@@ -79,29 +79,37 @@ before : (n : ℕ) (j : Judged) (a b : Answer) → Grows (Is n) a b → Grows (I
 before n good a b g = g
 before n (bad m) a b g = inr refl
 
-table-before : (n : ℕ) (walk walk' : Walk) (low high : ℕ) (t : List ℕ) (words more : ℕ) (x : Seen) → ((start bytes size : ℕ) → Grows (Is n) (judgedOf walk low t words start bytes size) (judgedOf walk' high t more start bytes size)) → Grows (Is n) (withTable walk low t words x) (withTable walk' high t more x)
-table-before n walk walk' low high t words more (is table) g = g (table .start) (lengthOf table) (table .size)
-table-before n walk walk' low high t words more (no m) g = inr refl
+-- what the judged parts of every tag do, tags and profiles do: with another limit, and other slots
+module _ (n : ℕ) (walk : Walk) (low high few many : ℕ) (g : (t : List ℕ) (start bytes size : ℕ) → Grows (Is n) (judgedOf walk low t few start bytes size) (judgedOf walk high t many start bytes size)) where
+  table-grows : (t : List ℕ) (x : Seen) → Grows (Is n) (withTable walk low t few x) (withTable walk high t many x)
+  table-grows t (is table) = g t (table .start) (lengthOf table) (table .size)
+  table-grows t (no m) = inr refl
+
+  abm-grows : (t : List ℕ) → Grows (Is n) (abmOf walk low t few) (abmOf walk high t many)
+  unfolding abmOf
+  abm-grows t =
+      choose (Is n) (ltb 4 (inputs t) && ltb 4 (outputs t)) (λ _. inr refl)
+      (λ _. before n (matrixJudged t) _ _ (table-grows t (tableOf t)))
+
+  type-grows : (t : List ℕ) → Grows (Is n) (byType walk low t few) (byType walk high t many)
+  unfolding byType
+  type-grows t =
+      choose (Is n) (eqb (u32At t 0) (signatureOf Mab)) (λ _. abm-grows t)
+      (λ _. choose (Is n) (eqb (u32At t 0) (signatureOf Mba)) (λ _. abm-grows t) (λ _. inr refl))
+
+  lut-grows : (p : List ℕ) (entry size : ℕ) → Grows (Is n) (lutOf walk low p entry size few) (lutOf walk high p entry size many)
+  unfolding lutOf
+  lut-grows p entry size =
+      choose (Is n) (ltb (length p) (entry + countedSize size)) (λ _. inr refl)
+      (λ _. choose (Is n) (ltb (countedSize size) 48) (λ _. inr refl) (λ _. type-grows (tagOf p entry size)))
 
 module _ (walk : Walk) (low high : ℕ) (h : low ≤ high) where
-  judged-limit : (t : List ℕ) (words start bytes size : ℕ) → Grows (Is 10) (judgedOf walk low t words start bytes size) (judgedOf walk high t words start bytes size)
+  judged-limit : (words : ℕ) (t : List ℕ) (start bytes size : ℕ) → Grows (Is 10) (judgedOf walk low t words start bytes size) (judgedOf walk high t words start bytes size)
   unfolding judgedOf
-  judged-limit t words start bytes size = judged-grows _ _ (recordedOf t words start bytes size) (runs-limit walk low high t (planOf t) h)
-
-  abm-limit : (t : List ℕ) (words : ℕ) → Grows (Is 10) (abmOf walk low t words) (abmOf walk high t words)
-  unfolding abmOf
-  abm-limit t words =
-      choose (Is 10) (ltb 4 (inputs t) && ltb 4 (outputs t)) (λ _. inr refl)
-      (λ _. before 10 (matrixJudged t) _ _ (table-before 10 walk walk low high t words words (tableOf t) (judged-limit t words)))
+  judged-limit words t start bytes size = judged-grows _ _ (recordedOf t words start bytes size) (runs-limit walk low high t (planOf t) h)
 
   pub more-limit : (p : List ℕ) (entry size words : ℕ) → Grows (Is 10) (lutOf walk low p entry size words) (lutOf walk high p entry size words)
-  unfolding lutOf byType
-  more-limit p entry size words =
-      let t : List ℕ = tagOf p entry size in
-      choose (Is 10) (ltb (length p) (entry + countedSize size)) (λ _. inr refl)
-      (λ _. choose (Is 10) (ltb (countedSize size) 48) (λ _. inr refl)
-      (λ _. choose (Is 10) (eqb (u32At t 0) (signatureOf Mab)) (λ _. abm-limit t words)
-      (λ _. choose (Is 10) (eqb (u32At t 0) (signatureOf Mba)) (λ _. abm-limit t words) (λ _. inr refl))))
+  more-limit p entry size words = lut-grows 10 walk low high words words (judged-limit words) p entry size
 
 -- ---- more slots
 
@@ -116,20 +124,8 @@ module _ (walk : Walk) (limit few many : ℕ) (h : few ≤ many) where
   unfolding judgedOf
   judged-slots t start bytes size = before 14 (runsJudged walk limit t (planOf t)) _ _ (recorded-slots t start bytes size)
 
-  abm-slots : (t : List ℕ) → Grows (Is 14) (abmOf walk limit t few) (abmOf walk limit t many)
-  unfolding abmOf
-  abm-slots t =
-      choose (Is 14) (ltb 4 (inputs t) && ltb 4 (outputs t)) (λ _. inr refl)
-      (λ _. before 14 (matrixJudged t) _ _ (table-before 14 walk walk limit limit t few many (tableOf t) (judged-slots t)))
-
   pub more-slots : (p : List ℕ) (entry size : ℕ) → Grows (Is 14) (lutOf walk limit p entry size few) (lutOf walk limit p entry size many)
-  unfolding lutOf byType
-  more-slots p entry size =
-      let t : List ℕ = tagOf p entry size in
-      choose (Is 14) (ltb (length p) (entry + countedSize size)) (λ _. inr refl)
-      (λ _. choose (Is 14) (ltb (countedSize size) 48) (λ _. inr refl)
-      (λ _. choose (Is 14) (eqb (u32At t 0) (signatureOf Mab)) (λ _. abm-slots t)
-      (λ _. choose (Is 14) (eqb (u32At t 0) (signatureOf Mba)) (λ _. abm-slots t) (λ _. inr refl))))
+  more-slots = lut-grows 14 walk limit limit few many judged-slots
 
 -- ---- all at once
 
