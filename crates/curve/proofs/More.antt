@@ -9,7 +9,7 @@ use mathlib.Core.List.{List, _++_}
 use mathlib.Core.Logic.{_⊎_, inl, inr}
 use lib.Dec.{ltb, leb, eqb}
 use lib.ListN.{length, take, drop}
-use borrow.Author.Tests.{ltb-true, ltb-false, le-ltb, lt-ltb}
+use borrow.Author.Tests.{ltb-true, ltb-false, le-leb, le-ltb, lt-ltb}
 use Rattle.fields.specs.Bytes.{u16At, u32At}
 use Rattle.fields.specs.Tag.{signatureOf}
 use Rattle.fields.specs.declared.Kind.the-variants.{Curv, Para}
@@ -114,6 +114,15 @@ more-limit walk low high p entry size h =
 pub short : (walk : Walk) (limit : ℕ) (p : List ℕ) (entry size : ℕ) → length p < entry + 4 → trcOf walk limit p entry size ≡ absent
 unfolding trcOf
 short walk limit p entry size h = rw (lt-ltb (length p) (entry + 4) h)
+
+-- sizes 1 to 11 are absent whatever the profile is
+pub small : (walk : Walk) (limit : ℕ) (p : List ℕ) (entry size : ℕ) → 1 ≤ size → size < 12 → trcOf walk limit p entry size ≡ absent
+unfolding trcOf
+small walk limit p entry size h l = rw (le-leb 1 size h, lt-ltb size 12 l) (by (ltb (length p) (entry + 4)))
+  where
+    by : (b : Bool) → cond b absent absent ≡ absent
+    by true = refl
+    by false = refl
 
 -- a value keeps its record and its consumed size
 pub value-stays : (walk : Walk) (low high : ℕ) (p q : List ℕ) (entry size : ℕ) (ws : List ℕ) (consumed : ℕ) → low ≤ high → trcOf walk low p entry size ≡ value ws consumed → trcOf walk high (p ++ q) entry size ≡ value ws consumed

@@ -8,8 +8,11 @@ use mathlib.Core.Bool.{Bool, true, false, cond, _&&_}
 use mathlib.Core.List.{List, [], _∷_, _++_}
 use mathlib.Core.Logic.{_⊎_, inl, inr}
 use lib.Dec.{ltb, eqb}
-use lib.ListN.{length, drop, length-drop}
+use lib.ListN.{length, drop, length-take, length-drop}
 use borrow.Author.Tests.{eq-eqb, ne-eqb, eqb-true, eqb-false, le-ltb}
+use Rattle.fields.specs.Bytes.{u32At}
+use Rattle.fields.specs.Tag.{signatureOf}
+use Rattle.fields.specs.declared.Kind.the-variants.{Mab, Mba}
 use Rattle.clut.specs.Clut.{is, clutOf}
 use Rattle.clut.specs.Table.{Table, lengthOf}
 use Rattle.clut.proofs.Conforms.{conforms as table-conforms, accepted as table-accepted}
@@ -22,12 +25,13 @@ use Rattle.curve.proofs.Inside.{curve-inside, size-least, book-step}
 use Rattle.run.specs.Run.{Placed, whole, raised, entryAt, runAt, endOf, recordWords}
 use Rattle.run.proofs.Runs.{Reads, run-reads, reads-run, run-count}
 use Rattle.lut.specs.Abm.{noTable, tableOf, valueFrom, recordedOf, judgedOf, abmOf}
-use Rattle.lut.specs.Answer.{Abm, abm}
+use Rattle.lut.specs.Answer.{Abm, abm, Answer}
 use Rattle.lut.specs.Layout.{inputs, outputs, aOffset, mOffset, bOffset, matrixOffset, clutOffset, aCurves, mCurves, bCurves, planOf, recordsNeeded}
+use Rattle.lut.specs.Lut.{countedSize, tagOf, byType, lutOf}
 use Rattle.lut.specs.Parts.{runA, runM, runB, runsJudged, curvesOf, matrixJudged}
 use Rattle.lut.specs.Standard.{Row, TableThere, TableNot, LaidOut}
 use Rattle.lut.specs.Verdict.{good, ended}
-use Rattle.lut.proofs.Accepted.{accepted}
+use Rattle.lut.proofs.Accepted.{accepted, found}
 use Rattle.lut.proofs.Inside.{matrix-inside}
 use Rattle.lut.proofs.PartLaws.{a-whole, m-whole, b-whole}
 
@@ -117,16 +121,37 @@ module _ (limit : ℕ) (t : List ℕ) (table : Table) (a m b : List Placed) (h :
   unfolding curvesOf
   conforms-curves = rw (run-a, run-m, run-b)
 
+-- either type is read alike
+either-type : (limit : ℕ) (t : List ℕ) (words : ℕ) → (u32At t 0 ≡ signatureOf Mab) ⊎ (u32At t 0 ≡ signatureOf Mba) → byType Book limit t words ≡ abmOf Book limit t words
+unfolding byType
+either-type limit t words (inl e) = rw (eq-eqb (u32At t 0) (signatureOf Mab) e)
+either-type limit t words (inr e) = rw (eq-eqb (u32At t 0) (signatureOf Mba) e) (by (eqb (u32At t 0) (signatureOf Mab)))
+  where
+    by : (b : Bool) → cond b (abmOf Book limit t words) (abmOf Book limit t words) ≡ abmOf Book limit t words
+    by true = refl
+    by false = refl
+
+-- in a profile: a tag that lies in it and is laid out so is accepted with its fields, if the slots suffice
+pub lone-conforms : (limit : ℕ) (p : List ℕ) (entry size : ℕ) (table : Table) (a m b : List Placed) → entry + countedSize size ≤ length p → LaidOut limit (tagOf p entry size) table a m b → (words : ℕ) → recordsNeeded (tagOf p entry size) ≤ words / recordWords → lutOf Book limit p entry size words ≡ valueFrom (tagOf p entry size) (table .start) (lengthOf table) (table .size)
+unfolding lutOf
+lone-conforms limit p entry size table a m b l h words room =
+    let t : List ℕ = tagOf p entry size in
+    let long : 48 ≤ countedSize size = omega (arith, h .long, length-take (countedSize size) (drop entry p)) in
+    rw (le-ltb (length p) (entry + countedSize size) l, le-ltb (countedSize size) 48 long)
+    (either-type limit t words (h .type-is) ∙ conforms limit t table a m b h words room)
+
 -- what is accepted is laid out so
-pub record Laying (limit : ℕ) (t : List ℕ) (words : ℕ) : Type 0 where
+pub record Laying (limit : ℕ) (t : List ℕ) (answer : Answer) : Type 0 where
   pub table : Table
   pub laid-out : LaidOut limit t table (runA Book limit t (planOf t) .curves) (runM Book limit t (planOf t) .curves) (runB Book limit t (planOf t) .curves)
-  pub answer-is : abmOf Book limit t words ≡ valueFrom t (table .start) (lengthOf table) (table .size)
+  pub answer-is : answer ≡ valueFrom t (table .start) (lengthOf table) (table .size)
 
-laying : (limit : ℕ) (t : List ℕ) (table : Table) → ltb 4 (inputs t) && ltb 4 (outputs t) ≡ false → (matrixOffset t ≡ 0) ⊎ (matrixOffset t + 48 ≤ length t) → TableNot t table ⊎ TableThere t table → runA Book limit t (planOf t) .end ≡ whole → runM Book limit t (planOf t) .end ≡ whole → runB Book limit t (planOf t) .end ≡ whole → LaidOut limit t table (runA Book limit t (planOf t) .curves) (runM Book limit t (planOf t) .curves) (runB Book limit t (planOf t) .curves)
+laying : (limit : ℕ) (t : List ℕ) (table : Table) → (u32At t 0 ≡ signatureOf Mab) ⊎ (u32At t 0 ≡ signatureOf Mba) → 48 ≤ length t → ltb 4 (inputs t) && ltb 4 (outputs t) ≡ false → (matrixOffset t ≡ 0) ⊎ (matrixOffset t + 48 ≤ length t) → TableNot t table ⊎ TableThere t table → runA Book limit t (planOf t) .end ≡ whole → runM Book limit t (planOf t) .end ≡ whole → runB Book limit t (planOf t) .end ≡ whole → LaidOut limit t table (runA Book limit t (planOf t) .curves) (runM Book limit t (planOf t) .curves) (runB Book limit t (planOf t) .curves)
 unfolding planOf
-laying limit t table few matrix clut ea em eb =
+laying limit t table type long few matrix clut ea em eb =
     record {
+      type-is = type;
+      long = long;
       few-channels = few;
       matrix = matrix;
       clut = clut;
@@ -138,14 +163,17 @@ laying limit t table few matrix clut ea em eb =
       b-count = run-count Book limit t (bOffset t) (bCurves t) eb;
     }
 
-pub laid : (limit : ℕ) (t : List ℕ) (words : ℕ) (f : Abm) → abmOf Book limit t words .state ≡ abm f → Laying limit t words
-laid limit t words f h =
-    let w = accepted Book limit t words f h in
+pub laid : (limit : ℕ) (p : List ℕ) (entry size words : ℕ) (f : Abm) → lutOf Book limit p entry size words .state ≡ abm f → Laying limit (tagOf p entry size) (lutOf Book limit p entry size words)
+laid limit p entry size words f h =
+    let t : List ℕ = tagOf p entry size in
+    let v = found Book limit p entry size words f h in
+    let w = accepted Book limit t words f (ap (λ (a : Answer). a .state) (sym (v .as-tag)) ∙ h) in
+    let long : 48 ≤ length t = omega (arith, v .long, v .tag-in-profile, length-take (countedSize size) (drop entry p), length-drop entry p) in
     let ea : runA Book limit t (planOf t) .end ≡ whole = a-whole Book limit t (planOf t) (w .runs-good) in
     let em : runM Book limit t (planOf t) .end ≡ whole = m-whole Book limit t (planOf t) (w .runs-good) in
     let eb : runB Book limit t (planOf t) .end ≡ whole = b-whole Book limit t (planOf t) (w .runs-good) in
     record {
       table = w .table;
-      laid-out = laying limit t (w .table) (w .few-channels) (matrix-inside t (w .matrix-good)) (table-found t (w .table) (w .table-is)) ea em eb;
-      answer-is = w .answer-is;
+      laid-out = laying limit t (w .table) (v .type-is) long (w .few-channels) (matrix-inside t (w .matrix-good)) (table-found t (w .table) (w .table-is)) ea em eb;
+      answer-is = v .as-tag ∙ w .answer-is;
     }

@@ -19,15 +19,17 @@ use Rattle.clut.proofs.Conforms.{accepted as laid-out}
 use Rattle.clut.proofs.Grid.{entry-below}
 use Rattle.clut.proofs.Inside.{inside}
 use Rattle.curve.specs.declared.Walk.{Walk}
-use Rattle.run.specs.Run.{Placed, endOf, Each}
+use Rattle.run.specs.Run.{Placed, endOf, recordWords, recordsOf, dataEnd, Each}
+use Rattle.run.proofs.Records.{records-end}
 use Rattle.run.proofs.Runs.{run-inside}
 use Rattle.lut.specs.Abm.{noTable, tableOf, valueFrom, toldTable, abmOf}
-use Rattle.lut.specs.Answer.{Abm, abm, Answer}
-use Rattle.lut.specs.Layout.{inputs, outputs, matrixOffset, clutOffset, aOffset, mOffset, bOffset, aCurves, mCurves, bCurves, planOf, gridOf}
+use Rattle.lut.specs.Answer.{Abm, abm, Answer, leftBy}
+use Rattle.lut.specs.Layout.{recordsNeeded, inputs, outputs, matrixOffset, clutOffset, aOffset, mOffset, bOffset, aCurves, mCurves, bCurves, planOf, gridOf}
 use Rattle.lut.specs.Lut.{countedSize, tagOf, lutOf}
 use Rattle.lut.specs.Parts.{curvesOf, matrixJudged}
 use Rattle.lut.specs.Verdict.{good, bad}
 use Rattle.lut.proofs.Accepted.{accepted, found}
+use Rattle.lut.proofs.Needed.{needed-curves}
 
 each-append : (P : Placed → Type 0) (k m : List Placed) → Each P k → Each P m → Each P (k ++ m)
 unfolding Each
@@ -82,12 +84,13 @@ told-length grid f table a b c = rw (a, b, c) refl
 pub record Inside (walk : Walk) (limit : ℕ) (p : List ℕ) (entry size : ℕ) (grid : List ℕ) (f : Abm) : Type 0 where
   pub tag-in-profile : entry + countedSize size ≤ length p
   pub curves-in-tag : Each (λ c. endOf c ≤ length (tagOf p entry size)) (curvesOf walk limit (tagOf p entry size) (planOf (tagOf p entry size)))
+  pub records-in-tag : (slots : List ℕ) (k : ℕ) → k < f .a + f .m + f .b → dataEnd (drop (k * recordWords) (leftBy (abm f) (recordsOf (curvesOf walk limit (tagOf p entry size) (planOf (tagOf p entry size)))) slots)) ≤ length (tagOf p entry size)
   pub matrix-in-tag : (matrixOffset (tagOf p entry size) ≡ 0) ⊎ (matrixOffset (tagOf p entry size) + 48 ≤ length (tagOf p entry size))
   pub table-in-tag : f .start + f .bytes ≤ length (tagOf p entry size)
   pub entry-in-table : 1 ≤ f .size → (index : List ℕ) (channel : ℕ) → inGrid (toldTable grid f .grid) index ≡ true → channel < f .outputs → numberOf (toldTable grid f) index channel * f .size + f .size ≤ f .bytes
 
 pub lut-inside : (walk : Walk) (limit : ℕ) (p : List ℕ) (entry size words : ℕ) (f : Abm) → lutOf walk limit p entry size words .state ≡ abm f → Inside walk limit p entry size (lutOf walk limit p entry size words .grid) f
-unfolding valueFrom
+unfolding valueFrom recordsNeeded
 lut-inside walk limit p entry size words f h =
     let t : List ℕ = tagOf p entry size in
     let w = found walk limit p entry size words f h in
@@ -99,6 +102,9 @@ lut-inside walk limit p entry size words f h =
     let e₃ : f .size ≡ v .table .size = cc in
     let e₄ : f .inputs ≡ inputs t = cc in
     let e₅ : f .outputs ≡ outputs t = cc in
+    let e₆ : f .a ≡ aCurves t = cc in
+    let e₇ : f .m ≡ mCurves t = cc in
+    let e₈ : f .b ≡ bCurves t = cc in
     let grid : List ℕ = lutOf walk limit p entry size words .grid in
     let g₁ : grid ≡ gridOf t = ap (λ (a : Answer). a .grid) (w .as-tag ∙ v .answer-is) in
     let told : 1 ≤ f .size → lengthOf (toldTable grid f) ≡ f .bytes =
@@ -108,6 +114,7 @@ lut-inside walk limit p entry size words f h =
     record {
       tag-in-profile = w .tag-in-profile;
       curves-in-tag = curves-inside walk limit t;
+      records-in-tag = λ slots k l. records-end (length t) (curvesOf walk limit t (planOf t)) _ (curves-inside walk limit t) k (omega (arith, l, e₆, e₇, e₈, needed-curves walk limit t (v .runs-good)));
       matrix-in-tag = matrix-inside t (v .matrix-good);
       table-in-tag = omega (arith, e₁, e₂, table-inside t (v .table) (v .table-is));
       entry-in-table = λ l index channel valid low. omega (arith, entry-below (toldTable grid f) index channel valid low, told l);

@@ -27,7 +27,7 @@ use Rattle.lut.specs.Lut.{countedSize, tagOf, byType, lutOf}
 use Rattle.lut.specs.Parts.{runA, runM, runB, runsJudged, curvesOf, matrixJudged}
 use Rattle.lut.specs.Verdict.{Judged, good, bad, ended, andThen}
 use Rattle.lut.specs.declared.abm.Plan.{Plan}
-use Rattle.lut.proofs.Accepted.{accepted, found}
+use Rattle.lut.proofs.Accepted.{not-refused, accepted, found}
 use Rattle.lut.proofs.PartLaws.{a-whole, m-whole, b-whole}
 
 -- the answers that may change: those of one refusal
@@ -146,12 +146,9 @@ pub record Stays (walk : Walk) (low high : ℕ) (p q : List ℕ) (entry size few
   pub answer-stays : lutOf walk high (p ++ q) entry size many ≡ lutOf walk low p entry size few
   pub records-stay : recordsOf (curvesOf walk high (tagOf (p ++ q) entry size) (planOf (tagOf (p ++ q) entry size))) ≡ recordsOf (curvesOf walk low (tagOf p entry size) (planOf (tagOf p entry size)))
 
-not-refused : {A : Type 0} (a : Answer) (n : ℕ) (f : Abm) → a .state ≡ abm f → Is n a → A
-not-refused a n f h e = let z : _≡_ {A = ℕ} 0 1 = cc in absurd (omega arith)
-
 -- what may change is not a value, so a value is kept
 kept : (a b : Answer) (n : ℕ) (f : Abm) → a .state ≡ abm f → Grows (Is n) a b → b ≡ a
-kept a b n f h (inl e) = not-refused a n f h e
+kept a b n f h (inl e) = not-refused e f h
 kept a b n f h (inr e) = e
 
 pub value-stays : (walk : Walk) (low high : ℕ) (p q : List ℕ) (entry size few many : ℕ) (f : Abm) → low ≤ high → few ≤ many → lutOf walk low p entry size few .state ≡ abm f → Stays walk low high p q entry size few many

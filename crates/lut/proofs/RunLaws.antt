@@ -59,6 +59,9 @@ run-start walk limit t at n = rw sub-zero
 pub stop-refused : (got : CurveAnswer) (why : Refusal) → got ≡ CurveAnswer.Refused why → bad (numberOf why) ≡ curveJudged (paper got)
 stop-refused got why e = rw e
 
+pub stop-absent : (got : CurveAnswer) → got ≡ CurveAnswer.Absent → bad 2 ≡ curveJudged (paper got)
+stop-absent got e = rw e
+
 -- an answer that is no value ends the run with what it says
 ended-by : (got : CurveAnswer) → OneOf (1 ∷ 2 ∷ []) (placeIn answers.the-type got) → (walk : Walk) (start at : ℕ) (x : Seen) (next : Shape → Ran) → paper got ≡ answerOf walk start x → curveJudged (paper got) ≡ ended (follow at x next .end)
 unfolding ended

@@ -8,6 +8,9 @@ use lib.Dec.{ltb}
 use lib.ListN.{length, drop}
 use Rattle.clut.specs.Standard.{Laid as TableLaid, Within as TableWithin}
 use Rattle.clut.specs.Table.{Table}
+use Rattle.fields.specs.Bytes.{u32At}
+use Rattle.fields.specs.Tag.{signatureOf}
+use Rattle.fields.specs.declared.Kind.the-variants.{Mab, Mba}
 use Rattle.curve.specs.Standard.{Laid, Within}
 use Rattle.run.specs.Run.{Placed, raised, endOf}
 use Rattle.lut.specs.Abm.{noTable}
@@ -28,9 +31,11 @@ pub record TableNot (t : List ℕ) (table : Table) : Type 0 where
   pub not-there : clutOffset t ≡ 0
   pub none : table ≡ noTable
 
--- every element that is there lies in the tag as its layout says; a run has a curve for each channel of its side. Besides, one side
--- has at most four channels
+-- the tag has one of the two types, and every element that is there lies in it as its layout says; a run has a curve for each channel of
+-- its side. This library asks besides: 48 bytes, and at most four channels on one side
 pub record LaidOut (limit : ℕ) (t : List ℕ) (table : Table) (a m b : List Placed) : Type 0 where
+  pub type-is : (u32At t 0 ≡ signatureOf Mab) ⊎ (u32At t 0 ≡ signatureOf Mba)
+  pub long : 48 ≤ length t
   pub few-channels : ltb 4 (inputs t) && ltb 4 (outputs t) ≡ false
   pub matrix : (matrixOffset t ≡ 0) ⊎ (matrixOffset t + 48 ≤ length t)
   pub clut : TableNot t table ⊎ TableThere t table

@@ -18,10 +18,10 @@ unfoldable pub ended : End → Judged
 ended whole = good
 ended (stopped n at) = bad n
 
--- what a curve's answer says of its run
+-- what a curve's answer says of its run; a run's curve is never absent
 abbrev pub curveJudged : Answer → Judged
 curveJudged (value ws consumed) = good
-curveJudged absent = good
+curveJudged absent = bad 2
 curveJudged (refused n) = bad n
 
 -- one part after the other: the first refusal counts

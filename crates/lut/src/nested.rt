@@ -55,7 +55,7 @@ fn stopped(got: CurveAnswer) -> Verdict
             curve: _,
             consumed: _,
         } => Verdict::Good,
-        CurveAnswer::Absent => Verdict::Good,
+        CurveAnswer::Absent => Verdict::Refused(Refusal::TagTooShort),
     }
 }
 

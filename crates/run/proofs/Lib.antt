@@ -1,3 +1,4 @@
 pub mod Runs
 pub mod Limit
+pub mod Records
 pub mod Writing

@@ -2,8 +2,8 @@
 use Prim.Native.Nat.{ℕ, zero, suc, _+_, _*_, _/_}
 use mathlib.Core.Bool.{cond}
 use mathlib.Core.List.{List, [], _∷_, _++_}
-use lib.Dec.{ltb}
-use lib.ListN.{length, drop}
+use lib.Dec.{ltb, eqb}
+use lib.ListN.{length, getD, drop}
 use Rattle.fields.specs.House.{tagSize}
 use Rattle.curve.specs.Curve.{curveOf}
 use Rattle.curve.specs.Shape.{Shape, Seen, is, no, sizeOf, stepOf, wordsOf}
@@ -66,6 +66,10 @@ recordWords = 10
 unfoldable pub recordsOf : List Placed → List ℕ
 recordsOf [] = []
 recordsOf (c ∷ cs) = wordsOf (c .at + tagSize) (c .shape) ++ recordsOf cs
+
+-- where a record's data end, by its words: an entry of a table (kind 1) has two bytes, a parameter four
+abbrev pub dataEnd : List ℕ → ℕ
+dataEnd words = getD words 1 0 + cond (eqb (getD words 0 0) 1) 2 4 * getD words 2 0
 
 -- a condition on each of a list
 unfoldable pub Each : {A : Type 0} → (A → Type 0) → List A → Type 0

@@ -1,6 +1,6 @@
--- `lut::nested::stopped` meets its contract: a refusal is handed on.
+-- `lut::nested::stopped` meets its contract: a refusal is handed on, and an absence, which no curve of a run is, is 2.
 -- Assumes nothing.
-use Rattle.lut.proofs.RunLaws.{stop-refused}
+use Rattle.lut.proofs.RunLaws.{stop-refused, stop-absent}
 use borrow.Author.Needs.{needs}
 use Rattle.lut.proofs.nested.stopped.Statement.{statement}
 use Rattle.lut.proofs.nested.stopped.Tie as tie
@@ -14,4 +14,4 @@ stopped-spec =
     (λ c. search needs)
     (λ c. search (needs, stop-refused))
     (λ c. search needs)
-    (λ c. search needs))
+    (λ c. search (needs, stop-absent)))
