@@ -4,7 +4,7 @@
 use Prim.Native.Nat.{ℕ, _+_, _/_, _≤_}
 use native.Mathlib.Omega.{arith}
 use mathlib.Core.Path.{_≡_, refl, sym, ap, _∙_}
-use mathlib.Core.Bool.{Bool, true, false, cond, _&&_}
+use mathlib.Core.Bool.{Bool, true, false, cond}
 use mathlib.Core.List.{List, [], _∷_, _++_}
 use mathlib.Core.Logic.{_⊎_, inl, inr}
 use lib.Dec.{ltb, eqb}
@@ -14,6 +14,7 @@ use Rattle.fields.specs.Bytes.{u32At}
 use Rattle.fields.specs.Tag.{signatureOf}
 use Rattle.fields.specs.declared.Kind.the-variants.{Mab, Mba}
 use Rattle.clut.specs.Clut.{is, clutOf}
+use Rattle.clut.specs.Standard.{Within as TableWithin}
 use Rattle.clut.specs.Table.{Table, lengthOf}
 use Rattle.clut.proofs.Conforms.{conforms as table-conforms, accepted as table-accepted}
 use Rattle.curve.specs.Curve.{curveOf}
@@ -22,14 +23,14 @@ use Rattle.curve.specs.Standard.{Laid, Within}
 use Rattle.curve.specs.declared.Walk.the-variants.{Book}
 use Rattle.curve.proofs.Conforms.{accepted as curve-accepted, laid as curve-laid}
 use Rattle.curve.proofs.Inside.{curve-inside, size-least, book-step}
-use Rattle.run.specs.Run.{Placed, whole, raised, entryAt, runAt, endOf, recordWords}
+use Rattle.run.specs.Run.{Placed, whole, raised, entryAt, runAt, endOf, recordWords, Each}
 use Rattle.run.proofs.Runs.{Reads, run-reads, reads-run, run-count}
 use Rattle.lut.specs.Abm.{noTable, tableOf, valueFrom, recordedOf, judgedOf, abmOf}
 use Rattle.lut.specs.Answer.{Abm, abm, Answer}
 use Rattle.lut.specs.Layout.{inputs, outputs, aOffset, mOffset, bOffset, matrixOffset, clutOffset, aCurves, mCurves, bCurves, planOf, recordsNeeded}
 use Rattle.lut.specs.Lut.{countedSize, tagOf, byType, lutOf}
 use Rattle.lut.specs.Parts.{runA, runM, runB, runsJudged, curvesOf, matrixJudged}
-use Rattle.lut.specs.Standard.{Row, TableThere, TableNot, LaidOut}
+use Rattle.lut.specs.Standard.{Row, TableThere, TableNot, LaidOut, Kept, Asked}
 use Rattle.lut.specs.Verdict.{good, ended}
 use Rattle.lut.proofs.Accepted.{accepted, found}
 use Rattle.lut.proofs.Inside.{matrix-inside}
@@ -55,21 +56,22 @@ module _ (limit : ℕ) (t : List ℕ) where
       by true h = let z : _≡_ {A = ℕ} 0 1 = cc in absurd (omega arith)
       by false h = curve-laid limit (drop at t) s h
 
-  row-reads : (at : ℕ) (cs : List Placed) → Row limit t at cs → Reads Book limit t at cs
-  unfolding Row Reads
-  row-reads at [] h = tt
-  row-reads at (c ∷ cs) (e, l, w, rest) =
-      (e, seen-there at (c .shape) l w, row-reads (raised (at + stepOf Book (c .shape))) cs (rw (e, ← book-step (c .shape)) at rest))
+  row-reads : (at : ℕ) (cs : List Placed) → Row t at cs → Kept limit cs → Reads Book limit t at cs
+  unfolding Row Reads Each
+  row-reads at [] h k = tt
+  row-reads at (c ∷ cs) (e, l, rest) (w, k) =
+      (e, seen-there at (c .shape) l w, row-reads (raised (at + stepOf Book (c .shape))) cs (rw (e, ← book-step (c .shape)) at rest) k)
 
-  reads-row : (at : ℕ) (cs : List Placed) → Reads Book limit t at cs → Row limit t at cs
-  unfolding Row Reads
-  reads-row at [] h = tt
+  reads-row : (at : ℕ) (cs : List Placed) → Reads Book limit t at cs → Row t at cs × Kept limit cs
+  unfolding Row Reads Each
+  reads-row at [] h = (tt, tt)
   reads-row at (c ∷ cs) (e, s, rest) =
       let w = there-seen at (c .shape) s in
-      (e, w .0, w .1, reads-row (raised (endOf c)) cs (rw (book-step (c .shape), ← e) at rest))
+      let r = reads-row (raised (endOf c)) cs (rw (book-step (c .shape), ← e) at rest) in
+      ((e, w .0, r .0), (w .1, r .1))
 
-  row-run : (at n : ℕ) (cs : List Placed) → Row limit t at cs → length cs ≡ n → runAt Book limit t at n ≡ record { curves = cs; end = whole }
-  row-run at n cs h e = ap (runAt Book limit t at) (sym e) ∙ reads-run Book limit t at cs (row-reads at cs h)
+  row-run : (at n : ℕ) (cs : List Placed) → Row t at cs → Kept limit cs → length cs ≡ n → runAt Book limit t at n ≡ record { curves = cs; end = whole }
+  row-run at n cs h k e = ap (runAt Book limit t at) (sym e) ∙ reads-run Book limit t at cs (row-reads at cs h k)
 
 -- ---- the whole tag
 
@@ -82,39 +84,39 @@ matrix-good t (inr l) = rw (le-ltb (length t) (matrixOffset t + 48) l) (by (eqb 
     by true = refl
     by false = refl
 
-table-good : (t : List ℕ) (table : Table) → TableNot t table ⊎ TableThere t table → tableOf t ≡ is table
+table-good : (t : List ℕ) (table : Table) → TableNot t table ⊎ TableThere t table → ((clutOffset t ≡ 0 → ⊥) → TableWithin table) → tableOf t ≡ is table
 unfolding tableOf
-table-good t table (inl h) = rw (eq-eqb (clutOffset t) 0 (h .not-there), h .none)
-table-good t table (inr h) = rw (ne-eqb (clutOffset t) 0 (h .there)) (table-conforms t (clutOffset t) (inputs t) (outputs t) table (h .laid) (h .within))
+table-good t table (inl h) w = rw (eq-eqb (clutOffset t) 0 (h .not-there), h .none)
+table-good t table (inr h) w = rw (ne-eqb (clutOffset t) 0 (h .there)) (table-conforms t (clutOffset t) (inputs t) (outputs t) table (h .laid) (w (h .there)))
 
-table-found : (t : List ℕ) (table : Table) → tableOf t ≡ is table → TableNot t table ⊎ TableThere t table
+table-found : (t : List ℕ) (table : Table) → tableOf t ≡ is table → (TableNot t table ⊎ TableThere t table) × ((clutOffset t ≡ 0 → ⊥) → TableWithin table)
 unfolding tableOf
 table-found t table = by (eqb (clutOffset t) 0) refl
   where
-    by : (b : Bool) → eqb (clutOffset t) 0 ≡ b → cond b (is noTable) (clutOf t (clutOffset t) (inputs t) (outputs t)) ≡ is table → TableNot t table ⊎ TableThere t table
-    by true e h = inl record { not-there = eqb-true (clutOffset t) 0 e; none = cc }
+    by : (b : Bool) → eqb (clutOffset t) 0 ≡ b → cond b (is noTable) (clutOf t (clutOffset t) (inputs t) (outputs t)) ≡ is table → (TableNot t table ⊎ TableThere t table) × ((clutOffset t ≡ 0 → ⊥) → TableWithin table)
+    by true e h = let z : clutOffset t ≡ 0 = eqb-true (clutOffset t) 0 e in (inl record { not-there = z; none = cc }, λ n. absurd (n z))
     by false e h =
         let w = table-accepted t (clutOffset t) (inputs t) (outputs t) table h in
-        inr record { there = eqb-false (clutOffset t) 0 e; laid = w .laid; within = w .within }
+        (inr record { there = eqb-false (clutOffset t) 0 e; laid = w .laid }, λ _. w .within)
 
-module _ (limit : ℕ) (t : List ℕ) (table : Table) (a m b : List Placed) (h : LaidOut limit t table a m b) where
+module _ (limit : ℕ) (t : List ℕ) (table : Table) (a m b : List Placed) (h : LaidOut t table a m b) (k : Asked limit t table a m b) where
   run-a : runA Book limit t (planOf t) ≡ record { curves = a; end = whole }
   unfolding planOf
-  run-a = row-run limit t (aOffset t) (aCurves t) a (h .a-row) (h .a-count)
+  run-a = row-run limit t (aOffset t) (aCurves t) a (h .a-row) (k .a-kept) (h .a-count)
 
   run-m : runM Book limit t (planOf t) ≡ record { curves = m; end = whole }
   unfolding planOf
-  run-m = row-run limit t (mOffset t) (mCurves t) m (h .m-row) (h .m-count)
+  run-m = row-run limit t (mOffset t) (mCurves t) m (h .m-row) (k .m-kept) (h .m-count)
 
   run-b : runB Book limit t (planOf t) ≡ record { curves = b; end = whole }
   unfolding planOf
-  run-b = row-run limit t (bOffset t) (bCurves t) b (h .b-row) (h .b-count)
+  run-b = row-run limit t (bOffset t) (bCurves t) b (h .b-row) (k .b-kept) (h .b-count)
 
   -- what is laid out so is accepted with its fields, if the slots suffice
   pub conforms : (words : ℕ) → recordsNeeded t ≤ words / recordWords → abmOf Book limit t words ≡ valueFrom t (table .start) (lengthOf table) (table .size)
   unfolding abmOf judgedOf recordedOf runsJudged ended
   conforms words room =
-      rw (h .few-channels, matrix-good t (h .matrix), table-good t table (h .clut), run-a, run-m, run-b, le-ltb (words / recordWords) (recordsNeeded t) room)
+      rw (k .few-channels, matrix-good t (h .matrix), table-good t table (h .clut) (k .table-within), run-a, run-m, run-b, le-ltb (words / recordWords) (recordsNeeded t) room)
 
   -- and its curves are those
   pub conforms-curves : curvesOf Book limit t (planOf t) ≡ a ++ m ++ b
@@ -132,48 +134,53 @@ either-type limit t words (inr e) = rw (eq-eqb (u32At t 0) (signatureOf Mba) e) 
     by false = refl
 
 -- in a profile: a tag that lies in it and is laid out so is accepted with its fields, if the slots suffice
-pub lone-conforms : (limit : ℕ) (p : List ℕ) (entry size : ℕ) (table : Table) (a m b : List Placed) → entry + countedSize size ≤ length p → LaidOut limit (tagOf p entry size) table a m b → (words : ℕ) → recordsNeeded (tagOf p entry size) ≤ words / recordWords → lutOf Book limit p entry size words ≡ valueFrom (tagOf p entry size) (table .start) (lengthOf table) (table .size)
+pub lone-conforms : (limit : ℕ) (p : List ℕ) (entry size : ℕ) (table : Table) (a m b : List Placed) → entry + countedSize size ≤ length p → LaidOut (tagOf p entry size) table a m b → Asked limit (tagOf p entry size) table a m b → (words : ℕ) → recordsNeeded (tagOf p entry size) ≤ words / recordWords → lutOf Book limit p entry size words ≡ valueFrom (tagOf p entry size) (table .start) (lengthOf table) (table .size)
 unfolding lutOf
-lone-conforms limit p entry size table a m b l h words room =
+lone-conforms limit p entry size table a m b l h k words room =
     let t : List ℕ = tagOf p entry size in
-    let long : 48 ≤ countedSize size = omega (arith, h .long, length-take (countedSize size) (drop entry p)) in
+    let long : 48 ≤ countedSize size = omega (arith, k .long, length-take (countedSize size) (drop entry p)) in
     rw (le-ltb (length p) (entry + countedSize size) l, le-ltb (countedSize size) 48 long)
-    (either-type limit t words (h .type-is) ∙ conforms limit t table a m b h words room)
+    (either-type limit t words (h .type-is) ∙ conforms limit t table a m b h k words room)
 
--- what is accepted is laid out so
+-- what is accepted is laid out so, and keeps within what is asked
 pub record Laying (limit : ℕ) (t : List ℕ) (answer : Answer) : Type 0 where
   pub table : Table
-  pub laid-out : LaidOut limit t table (runA Book limit t (planOf t) .curves) (runM Book limit t (planOf t) .curves) (runB Book limit t (planOf t) .curves)
+  pub laid-out : LaidOut t table (runA Book limit t (planOf t) .curves) (runM Book limit t (planOf t) .curves) (runB Book limit t (planOf t) .curves)
+  pub asked : Asked limit t table (runA Book limit t (planOf t) .curves) (runM Book limit t (planOf t) .curves) (runB Book limit t (planOf t) .curves)
   pub answer-is : answer ≡ valueFrom t (table .start) (lengthOf table) (table .size)
 
-laying : (limit : ℕ) (t : List ℕ) (table : Table) → (u32At t 0 ≡ signatureOf Mab) ⊎ (u32At t 0 ≡ signatureOf Mba) → 48 ≤ length t → ltb 4 (inputs t) && ltb 4 (outputs t) ≡ false → (matrixOffset t ≡ 0) ⊎ (matrixOffset t + 48 ≤ length t) → TableNot t table ⊎ TableThere t table → runA Book limit t (planOf t) .end ≡ whole → runM Book limit t (planOf t) .end ≡ whole → runB Book limit t (planOf t) .end ≡ whole → LaidOut limit t table (runA Book limit t (planOf t) .curves) (runM Book limit t (planOf t) .curves) (runB Book limit t (planOf t) .curves)
-unfolding planOf
-laying limit t table type long few matrix clut ea em eb =
-    record {
-      type-is = type;
-      long = long;
-      few-channels = few;
-      matrix = matrix;
-      clut = clut;
-      a-row = reads-row limit t (aOffset t) _ (run-reads Book limit t (aOffset t) (aCurves t));
-      a-count = run-count Book limit t (aOffset t) (aCurves t) ea;
-      m-row = reads-row limit t (mOffset t) _ (run-reads Book limit t (mOffset t) (mCurves t));
-      m-count = run-count Book limit t (mOffset t) (mCurves t) em;
-      b-row = reads-row limit t (bOffset t) _ (run-reads Book limit t (bOffset t) (bCurves t));
-      b-count = run-count Book limit t (bOffset t) (bCurves t) eb;
-    }
-
 pub laid : (limit : ℕ) (p : List ℕ) (entry size words : ℕ) (f : Abm) → lutOf Book limit p entry size words .state ≡ abm f → Laying limit (tagOf p entry size) (lutOf Book limit p entry size words)
+unfolding planOf
 laid limit p entry size words f h =
     let t : List ℕ = tagOf p entry size in
     let v = found Book limit p entry size words f h in
     let w = accepted Book limit t words f (ap (λ (a : Answer). a .state) (sym (v .as-tag)) ∙ h) in
-    let long : 48 ≤ length t = omega (arith, v .long, v .tag-in-profile, length-take (countedSize size) (drop entry p), length-drop entry p) in
-    let ea : runA Book limit t (planOf t) .end ≡ whole = a-whole Book limit t (planOf t) (w .runs-good) in
-    let em : runM Book limit t (planOf t) .end ≡ whole = m-whole Book limit t (planOf t) (w .runs-good) in
-    let eb : runB Book limit t (planOf t) .end ≡ whole = b-whole Book limit t (planOf t) (w .runs-good) in
+    let c = table-found t (w .table) (w .table-is) in
+    let a = reads-row limit t (aOffset t) _ (run-reads Book limit t (aOffset t) (aCurves t)) in
+    let m = reads-row limit t (mOffset t) _ (run-reads Book limit t (mOffset t) (mCurves t)) in
+    let b = reads-row limit t (bOffset t) _ (run-reads Book limit t (bOffset t) (bCurves t)) in
     record {
       table = w .table;
-      laid-out = laying limit t (w .table) (v .type-is) long (w .few-channels) (matrix-inside t (w .matrix-good)) (table-found t (w .table) (w .table-is)) ea em eb;
+      laid-out =
+          record {
+            type-is = v .type-is;
+            matrix = matrix-inside t (w .matrix-good);
+            clut = c .0;
+            a-row = a .0;
+            a-count = run-count Book limit t (aOffset t) (aCurves t) (a-whole Book limit t (planOf t) (w .runs-good));
+            m-row = m .0;
+            m-count = run-count Book limit t (mOffset t) (mCurves t) (m-whole Book limit t (planOf t) (w .runs-good));
+            b-row = b .0;
+            b-count = run-count Book limit t (bOffset t) (bCurves t) (b-whole Book limit t (planOf t) (w .runs-good));
+          };
+      asked =
+          record {
+            long = omega (arith, v .long, v .tag-in-profile, length-take (countedSize size) (drop entry p), length-drop entry p);
+            few-channels = w .few-channels;
+            table-within = c .1;
+            a-kept = a .1;
+            m-kept = m .1;
+            b-kept = b .1;
+          };
       answer-is = v .as-tag ∙ w .answer-is;
     }
