@@ -1,7 +1,6 @@
 -- The reader of lookup tables, case by case, as the code meets it: each law gives what is answered and what is left of the slots.
 -- Assumes nothing.
 use Prim.Native.Nat.{ℕ, _+_, _-_, _*_, _/_, _^_, _≤_, _<_}
-use native.Mathlib.Nat.{le-div-iff-mul-le}
 use native.Mathlib.Omega.{arith}
 use mathlib.Core.Path.{_≡_, refl, sym, _∙_, ap}
 use mathlib.Core.Bool.{Bool, true, false, _&&_}
@@ -77,30 +76,24 @@ module _ (walk : Walk) (limit : ℕ) (t s : List ℕ) (a : Answer) (r : Lut) whe
   same b u e h = rw e at h
 
 -- a slot is a whole record's words
-fits : (words needed : ℕ) → needed ≤ words / 10 → needed * 10 ≤ words
-fits words needed h = le-div-iff-mul-le {k = 10} {x = needed} {y = words} (omega arith) .0 h
-
 module _ (walk : Walk) (limit : ℕ) (t : List ℕ) (p : Plan) (w : Planned t p) (words start bytes size : ℕ) where
   need : p .na + p .nm + p .nb ≡ recordsNeeded t
   unfolding recordsNeeded planOf
   need = rw (w .is)
 
-  pub few-slots : words / 10 < p .na + p .nm + p .nb → recordedOf t words start bytes size ≡ refuse 14
+  pub few-slots : words / recordWords < p .na + p .nm + p .nb → recordedOf t words start bytes size ≡ refuse 14
   unfolding recordedOf
-  few-slots l = let k : words / 10 < recordsNeeded t = omega (arith, need) in rw (lt-ltb _ _ k)
+  few-slots l = let k : words / recordWords < recordsNeeded t = omega (arith, need) in rw (lt-ltb _ _ k)
 
-  pub enough-slots : p .na + p .nm + p .nb ≤ words / 10 → recordedOf t words start bytes size ≡ valueFrom t start bytes size
+  pub enough-slots : p .na + p .nm + p .nb ≤ words / recordWords → recordedOf t words start bytes size ≡ valueFrom t start bytes size
   unfolding recordedOf
-  enough-slots l = let k : recordsNeeded t ≤ words / 10 = omega (arith, need) in rw (le-ltb _ _ k)
+  enough-slots l = let k : recordsNeeded t ≤ words / recordWords = omega (arith, need) in rw (le-ltb _ _ k)
 
 module _ (walk : Walk) (limit : ℕ) (t s : List ℕ) (p : Plan) (w : Planned t p) (start bytes size : ℕ) (r : Lut) where
-  pub record-short : length s / 10 < p .na + p .nm + p .nb → paper r ≡ refuse 14 → Said walk limit t (recordedOf t (length s) start bytes size) r s s
+  pub record-short : length s / recordWords < p .na + p .nm + p .nb → paper r ≡ refuse 14 → Said walk limit t (recordedOf t (length s) start bytes size) r s s
   record-short l h = refusing walk limit t s _ r 14 (few-slots walk limit t p w (length s) start bytes size l) h
 
-  pub record-room : p .na + p .nm + p .nb ≤ length s / 10 → (p .na + p .nm + p .nb) * recordWords ≤ length s
-  record-room l = fits (length s) (p .na + p .nm + p .nb) l
-
-  pub record-written : p .na + p .nm + p .nb ≤ length s / 10 → runsJudged walk limit t p ≡ good → (s' : List ℕ) → s' ≡ recordsOf (curvesOf walk limit t p) ++ drop ((p .na + p .nm + p .nb) * recordWords) s → paper r ≡ valueFrom t start bytes size → Said walk limit t (recordedOf t (length s) start bytes size) r s s'
+  pub record-written : p .na + p .nm + p .nb ≤ length s / recordWords → runsJudged walk limit t p ≡ good → (s' : List ℕ) → s' ≡ recordsOf (curvesOf walk limit t p) ++ drop ((p .na + p .nm + p .nb) * recordWords) s → paper r ≡ valueFrom t start bytes size → Said walk limit t (recordedOf t (length s) start bytes size) r s s'
   unfolding valueFrom
   record-written l g s' e h =
       let f = enough-slots walk limit t p w (length s) start bytes size l in
