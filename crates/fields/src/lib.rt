@@ -4,7 +4,7 @@ ghost use mathlib.Core.Path.{_≡_};
 ghost use Prim.Native.Nat.{_+_};
 ghost use lib.ListN.{length, getD};
 ghost use Rattle.fields.specs.Bytes.{number, u16At, u32At};
-ghost use Rattle.fields.specs.Place.{placeOf};
+ghost use Rattle.fields.specs.Place.{placeOf, countedSize};
 ghost use Rattle.fields.specs.Refusals.{numberOf};
 ghost use Rattle.fields.specs.Tag.{kindOf};
 
@@ -176,6 +176,13 @@ pub fn locate(profile: &[u8], entry: Entry, end: InTag) -> Place
         from,
         to: from + size,
     }
+}
+
+// A size of 0 counts as 12, in lookup tables and text.
+pub fn counted_size(size: u32) -> u32
+    ensures { λ r. ⌜ r ≡ countedSize size ⌝ }
+{
+    if size == 0 { TAG_SIZE } else { size }
 }
 
 // The byte `k` behind `at`, and 0 past the end.

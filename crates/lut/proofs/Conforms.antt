@@ -10,6 +10,7 @@ use mathlib.Core.Logic.{_⊎_, inl, inr}
 use lib.Dec.{ltb, eqb}
 use lib.ListN.{length, drop, length-take, length-drop}
 use borrow.Author.Tests.{eq-eqb, ne-eqb, eqb-true, eqb-false, le-ltb}
+use Rattle.fields.specs.Place.{countedSize}
 use Rattle.fields.specs.Bytes.{u32At}
 use Rattle.fields.specs.Tag.{signatureOf}
 use Rattle.fields.specs.declared.Kind.the-variants.{Mab, Mba}
@@ -28,7 +29,7 @@ use Rattle.run.proofs.Runs.{Reads, run-reads, reads-run, run-count}
 use Rattle.lut.specs.Abm.{noTable, tableOf, valueFrom, recordedOf, judgedOf, abmOf}
 use Rattle.lut.specs.Answer.{Abm, abm, Answer}
 use Rattle.lut.specs.Layout.{inputs, outputs, aOffset, mOffset, bOffset, matrixOffset, clutOffset, aCurves, mCurves, bCurves, planOf, recordsNeeded}
-use Rattle.lut.specs.Lut.{countedSize, tagOf, byType, lutOf}
+use Rattle.lut.specs.Lut.{tagOf, byType, lutOf}
 use Rattle.lut.specs.Parts.{runA, runM, runB, runsJudged, curvesOf, matrixJudged}
 use Rattle.lut.specs.Standard.{Row, TableThere, TableNot, LaidOut, Kept, Asked}
 use Rattle.lut.specs.Verdict.{good, ended}

@@ -11,6 +11,7 @@ use lib.Dec.{ltb, eqb}
 use lib.ListN.{length, take, drop, replicate}
 use lib.Seq.{take-take}
 use borrow.Author.Tests.{ltb-false, eqb-true}
+use Rattle.fields.specs.Place.{countedSize}
 use Rattle.fields.specs.Bytes.{bytesAt}
 use Rattle.fields.proofs.Words.{bytes-part}
 use Rattle.clut.specs.Clut.{is, clutOf}
@@ -25,7 +26,7 @@ use Rattle.run.proofs.Runs.{run-inside}
 use Rattle.lut.specs.Abm.{noTable, tableOf, valueFrom, toldTable, abmOf}
 use Rattle.lut.specs.Answer.{Abm, abm, Answer, leftBy}
 use Rattle.lut.specs.Layout.{recordsNeeded, inputs, outputs, matrixOffset, clutOffset, aOffset, mOffset, bOffset, aCurves, mCurves, bCurves, planOf, gridOf}
-use Rattle.lut.specs.Lut.{countedSize, tagOf, lutOf}
+use Rattle.lut.specs.Lut.{tagOf, lutOf}
 use Rattle.lut.specs.Parts.{curvesOf, matrixJudged}
 use Rattle.lut.specs.Verdict.{good, bad}
 use Rattle.lut.proofs.Accepted.{accepted, found}

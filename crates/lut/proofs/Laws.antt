@@ -11,7 +11,7 @@ use types.Run.{OneOf}
 use denote.Enum.Declared.{tagOf as placeIn}
 use borrow.Author.Tests.{eq-eqb, ne-eqb, lt-ltb, le-ltb}
 use Rattle.fields.specs.Bytes.{u32At}
-use Rattle.fields.specs.Place.{placeOf}
+use Rattle.fields.specs.Place.{placeOf, countedSize}
 use Rattle.fields.specs.Refusals.{numberOf}
 use Rattle.fields.specs.Tag.{signatureOf, kindOf as namedBy}
 use Rattle.fields.specs.declared.Kind.{Kind}
@@ -32,7 +32,7 @@ use Rattle.run.specs.Run.{recordWords, recordsOf}
 use Rattle.lut.specs.Abm.{tableOf, valueFrom, recordedOf, judgedOf, withTable, abmOf}
 use Rattle.lut.specs.Answer.{abm, Answer, none, refuse, paper}
 use Rattle.lut.specs.Layout.{toPcs, inputs, outputs, planOf, Planned, recordsNeeded, gridOf, matrixOf, biasOf}
-use Rattle.lut.specs.Lut.{Said, countedSize, tagOf, byType, lutOf}
+use Rattle.lut.specs.Lut.{Said, tagOf, byType, lutOf}
 use Rattle.lut.specs.Parts.{runsJudged, curvesOf, matrixJudged}
 use Rattle.lut.specs.Verdict.{good, judgedFrom}
 use Rattle.lut.specs.declared.abm.Lut.{Lut}

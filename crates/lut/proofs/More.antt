@@ -10,6 +10,7 @@ use mathlib.Core.Logic.{inl, inr}
 use lib.Dec.{ltb, eqb}
 use lib.ListN.{length}
 use borrow.Author.Tests.{ltb-false, le-ltb}
+use Rattle.fields.specs.Place.{countedSize}
 use Rattle.fields.specs.Bytes.{u32At}
 use Rattle.fields.specs.Tag.{signatureOf}
 use Rattle.fields.specs.declared.Kind.the-variants.{Mab, Mba}
@@ -23,7 +24,7 @@ use Rattle.run.proofs.Limit.{Over, run-limit}
 use Rattle.lut.specs.Abm.{tableOf, recordedOf, judgedOf, withTable, abmOf}
 use Rattle.lut.specs.Answer.{Abm, abm, refused, Answer, orRefused}
 use Rattle.lut.specs.Layout.{inputs, outputs, planOf, recordsNeeded}
-use Rattle.lut.specs.Lut.{countedSize, tagOf, byType, lutOf}
+use Rattle.lut.specs.Lut.{tagOf, byType, lutOf}
 use Rattle.lut.specs.Parts.{runA, runM, runB, runsJudged, curvesOf, matrixJudged}
 use Rattle.lut.specs.Verdict.{Judged, good, bad, ended, andThen}
 use Rattle.lut.specs.declared.abm.Plan.{Plan}

@@ -4,9 +4,9 @@ use mathlib.Core.Path.{_≡_}
 use mathlib.Core.Bool.{cond}
 use mathlib.Core.List.{List}
 use lib.Dec.{ltb, eqb}
-use lib.ListN.{length, take, drop}
+use lib.ListN.{length}
 use Rattle.fields.specs.Bytes.{u32At}
-use Rattle.fields.specs.House.{tagSize}
+use Rattle.fields.specs.Place.{tagAt, countedSize}
 use Rattle.fields.specs.Tag.{signatureOf}
 use Rattle.fields.specs.declared.Kind.the-variants.{Mab, Mba}
 use Rattle.curve.specs.declared.Walk.{Walk}
@@ -17,12 +17,8 @@ use Rattle.lut.specs.Layout.{planOf}
 use Rattle.lut.specs.Parts.{curvesOf}
 use Rattle.lut.specs.declared.abm.Lut.{Lut}
 
--- a size of 0 counts as the shortest tag's
-abbrev pub countedSize : ℕ → ℕ
-countedSize size = cond (eqb size 0) tagSize size
-
 abbrev pub tagOf : List ℕ → ℕ → ℕ → List ℕ
-tagOf profile entry size = take (countedSize size) (drop entry profile)
+tagOf profile entry size = tagAt profile entry (countedSize size)
 
 -- by the type of the tag t
 unfoldable pub byType : Walk → ℕ → List ℕ → ℕ → Answer

@@ -11,12 +11,11 @@ use fields::InTag;
 use fields::Kind;
 use fields::Place;
 use fields::Refusal;
-use fields::TAG_SIZE;
 pub use nested::RECORD_WORDS;
 ghost use mathlib.Core.Path.{_≡_};
 ghost use lib.ListN.{length};
 ghost use Prim.Native.Nat.{_^_, _<_};
-ghost use Rattle.lut.specs.Lut.{Said, countedSize, tagOf, byType, lutOf};
+ghost use Rattle.lut.specs.Lut.{Said, tagOf, byType, lutOf};
 
 // By the type of the tag.
 fn read_kind(tag: &[u8], limit: u64, walk: Walk, slots: &mut [u32]) -> Lut
@@ -28,13 +27,6 @@ fn read_kind(tag: &[u8], limit: u64, walk: Walk, slots: &mut [u32]) -> Lut
         Kind::Mba => abm::read_lut_abm_type(tag, limit, walk, slots),
         _ => abm::refused(Refusal::OtherLut),
     }
-}
-
-// A size of 0 counts as 12.
-fn counted(size: u32) -> u32
-    ensures { λ r. ⌜ r ≡ countedSize size ⌝ }
-{
-    if size == 0 { TAG_SIZE } else { size }
 }
 
 // The lookup table whose tag stands at `entry`, of `size` bytes; a size of 0 counts as 12. A curve may have `limit` entries. The
@@ -49,7 +41,7 @@ pub fn read_lut_tag(
 ) -> Lut
     ensures { λ r. ⌜ Said walk limit (tagOf (now (profile .entry)) (entry .0) size) (lutOf walk limit (now (profile .entry)) (entry .0) size (length (now (slots .entry)))) r (now (slots .entry)) (now (slots .exit)) ⌝ }
 {
-    let end = counted(size);
+    let end = fields::counted_size(size);
     let place = fields::locate(profile, entry, InTag(end as u64));
     let Place::In { from, to } = place else {
         return abm::refused(Refusal::PastProfile);
