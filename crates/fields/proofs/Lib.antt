@@ -6,3 +6,4 @@ pub mod Signatures
 pub mod Located
 pub mod Numbers
 pub mod Stores
+pub mod Fills

@@ -1,9 +1,9 @@
 // What every reader stands on: big-endian numbers in a lent slice, the kinds of tag, the two kinds of offset, the refusals and
 // the house defaults. Carries over tag.rs and helpers.rs of moxcms.
 ghost use mathlib.Core.Path.{_≡_};
-ghost use Prim.Native.Nat.{_+_};
+ghost use Prim.Native.Nat.{_+_, _≤_};
 ghost use lib.ListN.{length, getD};
-ghost use Rattle.fields.specs.Bytes.{number, u16At, u32At};
+ghost use Rattle.fields.specs.Bytes.{number, u16At, u32At, wordsAt};
 ghost use Rattle.fields.specs.Place.{placeOf, countedSize};
 ghost use Rattle.fields.specs.Refusals.{numberOf};
 ghost use Rattle.fields.specs.Tag.{kindOf};
@@ -215,15 +215,36 @@ pub fn u16_at(s: &[u8], at: InTag) -> u16
     (a as u16) * 256 + (b as u16)
 }
 
+// The big-endian 32-bit number `k` bytes behind `at`; bytes past the end count as 0.
+fn word(s: &[u8], at: InTag, k: usize) -> u32
+    requires { ⌜ k ≤ 32 ⌝ }
+    ensures { λ r. ⌜ r ≡ u32At (now (s .entry)) (at .0 + k) ⌝ }
+{
+    let a = byte(s, at, k);
+    let b = byte(s, at, k + 1);
+    let c = byte(s, at, k + 2);
+    let d = byte(s, at, k + 3);
+    (((a as u32) * 256 + (b as u32)) * 256 + (c as u32)) * 256 + (d as u32)
+}
+
 // The big-endian 32-bit number at `at`; bytes past the end count as 0.
 pub fn u32_at(s: &[u8], at: InTag) -> u32
     ensures { λ r. ⌜ r ≡ u32At (now (s .entry)) (at .0) ⌝ }
 {
-    let a = byte(s, at, 0);
-    let b = byte(s, at, 1);
-    let c = byte(s, at, 2);
-    let d = byte(s, at, 3);
-    (((a as u32) * 256 + (b as u32)) * 256 + (c as u32)) * 256 + (d as u32)
+    word(s, at, 0)
+}
+
+// The nine numbers of a matrix, each of 32 bits, from `at` on; bytes past the end count as 0.
+pub fn nine_at(s: &[u8], at: InTag) -> [u32; 9]
+    ensures { λ r. ⌜ r ≡ wordsAt (now (s .entry)) (at .0) 9 ⌝ }
+{
+    let mut words = [0u32; 9];
+    let mut i = 0;
+    while i < 9 {
+        words[i] = word(s, at, 4 * i);
+        i += 1;
+    }
+    words
 }
 
 // The kind that the four bytes at `at` name.

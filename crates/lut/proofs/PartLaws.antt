@@ -12,8 +12,7 @@ use denote.Enum.Declared.{tagOf as placeIn}
 use borrow.Author.Tests.{eq-eqb, ne-eqb, lt-ltb, le-ltb}
 use borrow.Rule.Slice.PartMut.{putMid}
 use Rattle.fields.specs.Bytes.{u32At, bytesAt, wordsAt}
-use Rattle.fields.proofs.Stores.{sets-append, front, rejoined, fill-begins, fill-turns, fill-ends}
-use Rattle.fields.proofs.Words.{word-at, words-length, byte-at, bytes-length}
+use Rattle.fields.proofs.Stores.{sets-append, front, rejoined}
 use Rattle.curve.specs.declared.Walk.{Walk}
 use Rattle.run.specs.Run.{End, whole, stopped, Ran, runAt, recordWords, recordsOf}
 use Rattle.run.proofs.Runs.{run-count}
@@ -203,9 +202,9 @@ module _ (t : List ℕ) (at : ℕ) where
   unfolding matrixOf
   matrix-default h e = rw (← h, eq-eqb at 0 e)
 
-  pub bias-given : at ≡ u32At t 16 → (at ≡ 0 → ⊥) → (ws : List ℕ) → ws ≡ wordsAt t (at + 36) 3 → ws ≡ biasOf t
-  unfolding biasOf
-  bias-given h e ws w = rw (← h, ne-eqb at 0 e) w
+  pub bias-given : at ≡ u32At t 16 → (at ≡ 0 → ⊥) → {x y z : ℕ} → x ≡ u32At t (at + 36) → y ≡ u32At t (at + 36 + 4) → z ≡ u32At t (at + 36 + 8) → x ∷ y ∷ z ∷ [] ≡ biasOf t
+  unfolding biasOf wordsAt
+  bias-given h e ex ey ez = let k : at + 36 + 8 ≡ at + 36 + 4 + 4 = omega arith in rw (← h, ne-eqb at 0 e, ex, ey, ez, k)
 
   pub bias-default : at ≡ u32At t 16 → at ≡ 0 → replicate 3 0 ≡ biasOf t
   unfolding biasOf
@@ -220,22 +219,3 @@ module _ (t : List ℕ) (at : ℕ) where
   grid-default h e = rw (← h, eq-eqb at 0 e)
 
 pub ruleset array-laws = (matrix-given, matrix-default, bias-given, bias-default, grid-given, grid-default)
-
-module _ (t : List ℕ) (at n : ℕ) (l : List ℕ) (e : length l ≡ n) (i : ℕ) where
-  pub words-turn : i < length l → (v : ℕ) → v ≡ u32At t (at + 4 * i) → sets l i (drop i (wordsAt t at n)) ≡ wordsAt t at n → sets (set l i v) (i + 1) (drop (i + 1) (wordsAt t at n)) ≡ wordsAt t at n
-  words-turn h v f w = fill-turns (wordsAt t at n) l i v (omega (arith, words-length t at n)) (f ∙ sym (word-at t at n i (omega arith))) w
-
-  pub words-end : length l ≤ i → sets l i (drop i (wordsAt t at n)) ≡ wordsAt t at n → l ≡ wordsAt t at n
-  words-end h w = fill-ends (wordsAt t at n) l i (omega (arith, words-length t at n)) w
-
-  pub bytes-turn : i < length l → (v : ℕ) → v ≡ getD t (at + i) 0 → sets l i (drop i (bytesAt t at n)) ≡ bytesAt t at n → sets (set l i v) (i + 1) (drop (i + 1) (bytesAt t at n)) ≡ bytesAt t at n
-  bytes-turn h v f w = fill-turns (bytesAt t at n) l i v (omega (arith, bytes-length t at n)) (f ∙ sym (byte-at t at n i (omega arith))) w
-
-  pub bytes-end : length l ≤ i → sets l i (drop i (bytesAt t at n)) ≡ bytesAt t at n → l ≡ bytesAt t at n
-  bytes-end h w = fill-ends (bytesAt t at n) l i (omega (arith, bytes-length t at n)) w
-
-pub words-begin : (t : List ℕ) (at : ℕ) (l : List ℕ) → sets l 0 (drop 0 (wordsAt t at (length l))) ≡ wordsAt t at (length l)
-words-begin t at l = fill-begins (wordsAt t at (length l)) l (sym (words-length t at (length l)))
-
-pub bytes-begin : (t : List ℕ) (at : ℕ) (l : List ℕ) → sets l 0 (drop 0 (bytesAt t at (length l))) ≡ bytesAt t at (length l)
-bytes-begin t at l = fill-begins (bytesAt t at (length l)) l (sym (bytes-length t at (length l)))

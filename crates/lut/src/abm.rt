@@ -15,7 +15,7 @@ ghost use Prim.Native.Nat.{_+_, _*_, _^_, _≤_, _<_};
 ghost use lib.Dec.{ltb};
 ghost use lib.ListN.{length, drop};
 ghost use Rattle.clut.specs.Answer.{paper as Clut·paper, toldOf};
-ghost use Rattle.fields.specs.Bytes.{bytesAt, wordsAt};
+ghost use Rattle.fields.specs.Bytes.{bytesAt};
 ghost use Rattle.fields.specs.Refusals.{numberOf};
 ghost use Rattle.run.specs.Run.{recordWords, recordsOf};
 ghost use Rattle.lut.specs.Abm.{tableOf, valueFrom, recordedOf, judgedOf, withTable, abmOf};
@@ -226,18 +226,6 @@ fn find_table(tag: &[u8]) -> ClutAnswer
     clut::read_clut(tag, InTag(at as u64), inputs, outputs)
 }
 
-// Fills `out` with the 32-bit numbers from `at` on.
-fn fill_words(tag: &[u8], at: InTag, out: &mut [u32])
-    requires { ⌜ (at .0 < 2 ^ 33) × (length (now out) < 2 ^ 32) ⌝ }
-    ensures { λ _. ⌜ now (out .exit) ≡ wordsAt (now (tag .entry)) (at .0) (length (now (out .entry))) ⌝ }
-{
-    let mut i = 0;
-    while i < out.len() {
-        out[i] = fields::u32_at(tag, InTag(at.0 + 4 * (i as u64)));
-        i += 1;
-    }
-}
-
 // Fills `out` with the bytes from `at` on.
 fn fill_bytes(tag: &[u8], at: InTag, out: &mut [u8])
     requires { ⌜ (at .0 < 2 ^ 33) × (length (now out) < 2 ^ 32) ⌝ }
@@ -255,22 +243,24 @@ fn matrix(tag: &[u8]) -> [u32; 9]
     ensures { λ r. ⌜ r ≡ matrixOf (now (tag .entry)) ⌝ }
 {
     let at = fields::u32_at(tag, InTag(16));
-    let mut words = [65536u32, 0, 0, 0, 65536, 0, 0, 0, 65536];
-    if at != 0 {
-        fill_words(tag, InTag(at as u64), &mut words);
+    if at == 0 {
+        return [65536, 0, 0, 0, 65536, 0, 0, 0, 65536];
     }
-    words
+    fields::nine_at(tag, InTag(at as u64))
 }
 
 fn bias(tag: &[u8]) -> [u32; 3]
     ensures { λ r. ⌜ r ≡ biasOf (now (tag .entry)) ⌝ }
 {
     let at = fields::u32_at(tag, InTag(16));
-    let mut words = [0u32; 3];
-    if at != 0 {
-        fill_words(tag, InTag(at as u64 + 36), &mut words);
+    if at == 0 {
+        return [0; 3];
     }
-    words
+    let behind = at as u64 + 36;
+    let x = fields::u32_at(tag, InTag(behind));
+    let y = fields::u32_at(tag, InTag(behind + 4));
+    let z = fields::u32_at(tag, InTag(behind + 8));
+    [x, y, z]
 }
 
 // The sixteen grid bytes, zeros without a colour table.

@@ -1,4 +1,4 @@
--- `fields::u32_at` meets its contract: its four bytes are those of the list.
+-- `fields::u32_at` meets its contract: the number none behind `at` is the one at `at`.
 -- Assumes nothing.
 use native.Mathlib.Nat.{add-zero}
 use borrow.Author.Needs.{needs}
@@ -10,17 +10,4 @@ u32-at-spec =
     tie.close
     (tie.spec
     (λ c κs. search needs)
-    (λ c κs. search needs)
-    (λ c κs. search needs)
-    (λ c κs. search needs)
-    (λ c. search needs)
-    (λ c. search needs)
-    (λ c. search needs)
-    (λ c. search needs)
-    (λ c. search needs)
-    (λ c. search needs)
-    (λ c. search needs)
-    (λ c. search needs)
-    (λ c. search needs)
-    (λ c. search needs)
-    (λ c. cc (add-zero (c .before .before .before .before .before .args .at .0))))
+    (λ c. rw add-zero at (c .word .ensures)))

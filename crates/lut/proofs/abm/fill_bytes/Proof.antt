@@ -2,12 +2,12 @@
 -- Assumes nothing.
 use Prim.Native.Nat.{_-_, _≤_}
 use native.Mathlib.Omega.{arith}
-use mathlib.Core.Path.{_≡_}
+use mathlib.Core.Path.{_≡_, refl}
 use lib.ListN.{length, drop, length-set}
 use lib.Seq.{sets}
 use borrow.Author.Needs.{needs}
 use Rattle.fields.specs.Bytes.{bytesAt}
-use Rattle.lut.proofs.PartLaws.{bytes-begin, bytes-turn, bytes-end}
+use Rattle.fields.proofs.Fills.{bytes-begin, bytes-turn, bytes-end}
 use Rattle.lut.proofs.abm.fill_bytes.Statement.{statement}
 use Rattle.lut.proofs.abm.fill_bytes.Tie as tie
 
@@ -24,7 +24,7 @@ fill-bytes-spec =
     (tie.spec
     Inv-loop
     μ-loop
-    (λ c. search (needs, bytes-begin))
+    (λ c. (omega arith, refl, search (needs, bytes-begin)))
     (λ c. search needs)
     (λ c κs. search needs)
     (λ c. search needs)

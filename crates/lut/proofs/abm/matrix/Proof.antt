@@ -10,8 +10,7 @@ matrix-spec =
     tie.close
     (tie.spec
     (λ c κs. search needs)
-    (λ c. search needs)
+    (λ c. search (needs, array-laws))
     (λ c. search needs)
     (λ c κs. search needs)
-    (λ c. search (needs, array-laws))
     (λ c. search (needs, array-laws)))
