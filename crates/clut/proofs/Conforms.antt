@@ -6,12 +6,12 @@ use Prim.Native.Nat.{ℕ, zero, suc, _+_, _*_, _^_, _≤_, _<_}
 use native.Mathlib.Omega.{arith}
 use native.Mathlib.Nat.{mul-assoc, mul-le-mul-left}
 use mathlib.Core.Path.{_≡_, refl, subst}
-use mathlib.Core.Bool.{Bool, true, false, _||_, true≢false}
+use mathlib.Core.Bool.{Bool, true, false, _||_}
 use mathlib.Core.List.{List, [], _∷_, _++_}
 use lib.Dec.{ltb, leb, eqb}
 use lib.ListN.{length, getD}
 use borrow.Author.Tests.{ne-eqb, le-ltb, lt-leb, ltb-false, eqb-false}
-use Rattle.fields.proofs.Choice.{each}
+use Rattle.fields.proofs.Choice.{each, neither-left, neither-right}
 use Rattle.clut.specs.Clut.{Seen, is, no, some, isOver, isFlat, partials, overflows, mostEntries, gridAt, tableAt, shapeOf, clutOf}
 use Rattle.clut.specs.Standard.{Laid, Within}
 use Rattle.clut.specs.Table.{Table, product, lastOf}
@@ -63,14 +63,6 @@ module _ (t : List ℕ) (at inputs outputs : ℕ) where
   conforms table h w = let e = there t at inputs outputs table h in rw (← e) (read-accepted (rw (← e) at h) (rw (← e) at w))
 
 -- ---- what is accepted is laid out so
-
-neither-left : (a b : Bool) → a || b ≡ false → a ≡ false
-neither-left true b e = e
-neither-left false b e = refl
-
-neither-right : (a b : Bool) → a || b ≡ false → b ≡ false
-neither-right true b e = absurd (true≢false e)
-neither-right false b e = e
 
 each-wide : (gs : List ℕ) → some isFlat gs ≡ false → (i : ℕ) → i < length gs → 2 ≤ getD gs i 0
 unfolding some

@@ -1,13 +1,14 @@
 -- The points of a grid by number: a valid index names one below the points, the last is one less than the points, and so an entry's
 -- bytes lie in the table's data. Nothing here asks where a table comes from.
 -- Assumes nothing.
-use Prim.Native.Nat.{ℕ, zero, suc, _+_, _*_, _≤_, _<_}
+use Prim.Native.Nat.{ℕ, zero, suc, _+_, _*_, _^_, _≤_, _<_}
 use native.Mathlib.Omega.{arith}
-use native.Mathlib.Nat.{mul-le-mul-right}
-use mathlib.Core.Path.{_≡_, refl}
+use native.Mathlib.Nat.{mul-le-mul-right, pow-zero, pow-succ'}
+use mathlib.Core.Path.{_≡_, refl, sym}
 use mathlib.Core.Bool.{Bool, true, false, _&&_, false≢true}
 use mathlib.Core.List.{List, [], _∷_}
 use lib.Dec.{ltb}
+use lib.ListN.{replicate}
 use borrow.Author.Tests.{ltb-true}
 use Rattle.clut.specs.Table.{Table, product, pointsOf, entriesOf, lengthOf, inGrid, pointOf, lastOf, numberOf}
 
@@ -16,6 +17,12 @@ pub factors : (p q : ℕ) → 1 ≤ p * q → (1 ≤ p) × (1 ≤ q)
 factors zero q h = absurd (omega arith)
 factors (suc p) zero h = absurd (omega arith)
 factors (suc p) (suc q) h = (omega arith, omega arith)
+
+-- as many points in each dimension
+pub power-is : (n g : ℕ) → product (replicate n g) ≡ g ^ n
+unfolding product
+power-is zero g = sym (pow-zero g)
+power-is (suc n) g = rw (power-is n g) (sym (pow-succ' g n))
 
 -- ---- a valid index
 

@@ -1,0 +1,14 @@
+-- `mft::tables_start` meets its contract: the type decides.
+-- Assumes nothing.
+use Rattle.mft.proofs.Laws.{type-laws}
+use borrow.Author.Needs.{needs}
+use Rattle.mft.proofs.tables_start.Statement.{statement}
+use Rattle.mft.proofs.tables_start.Tie as tie
+
+pub tables-start-spec : {M : Type 1} → statement M
+tables-start-spec =
+    tie.close
+    (tie.spec
+    (λ c κs. search needs)
+    (λ c. search (needs, type-laws))
+    (λ c. search (needs, type-laws)))

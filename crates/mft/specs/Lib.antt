@@ -1,0 +1,4 @@
+pub mod Layout
+pub mod Answer
+pub mod Mft
+pub mod Standard
