@@ -1,4 +1,5 @@
--- What stands behind a value: every part was good, and the slots sufficed.
+-- What stands behind a value: the tag lies in the profile and has one of the types; of `mAB ` and `mBA ` every part was good, and the slots
+-- sufficed.
 -- Assumes nothing.
 use Prim.Native.Nat.{ℕ, _+_, _/_, _≤_}
 use native.Mathlib.Omega.{arith}
@@ -17,17 +18,37 @@ use Rattle.fields.proofs.Choice.{each}
 use Rattle.clut.specs.Clut.{Seen, is, no}
 use Rattle.clut.specs.Table.{Table, lengthOf}
 use Rattle.curve.specs.declared.Walk.{Walk}
+use Rattle.mft.specs.Answer.{Fields, State as Mft·State, answerOf}
+use Rattle.mft.specs.Layout.{isMft}
+use Rattle.mft.specs.Mft.{mftOf}
 use Rattle.run.specs.Run.{recordWords}
 use Rattle.lut.specs.Abm.{tableOf, valueFrom, recordedOf, judgedOf, withTable, abmOf}
-use Rattle.lut.specs.Answer.{Abm, State, abm, refused, Answer, orRefused}
+use Rattle.lut.specs.Answer.{Abm, State, mft, abm, absent, refused, Answer, fromMft, orRefused}
 use Rattle.lut.specs.Layout.{inputs, outputs, planOf, recordsNeeded}
 use Rattle.lut.specs.Lut.{tagOf, byType, lutOf}
 use Rattle.lut.specs.Parts.{runsJudged, matrixJudged}
 use Rattle.lut.specs.Verdict.{Judged, good, bad}
 
--- a refusal is no value
-pub not-refused : {A : Type 0} {s : State} {n : ℕ} → s ≡ refused n → (f : Abm) → s ≡ abm f → A
-not-refused e f h = let z : _≡_ {A = ℕ} 0 1 = cc in absurd (omega arith)
+-- a value, of either kind
+unfoldable pub IsValue : State → Type 0
+IsValue (mft f) = Unit
+IsValue (abm f) = Unit
+IsValue absent = ⊥
+IsValue (refused n) = ⊥
+
+pub abm-value : {s : State} {f : Abm} → s ≡ abm f → IsValue s
+unfolding IsValue
+abm-value e = rw e tt
+
+pub mft-value : {s : State} {f : Fields} → s ≡ mft f → IsValue s
+unfolding IsValue
+mft-value e = rw e tt
+
+pub not-refused : {A : Type 0} {s : State} {n : ℕ} → s ≡ refused n → IsValue s → A
+unfolding IsValue
+not-refused e v = absurd (rw e at v)
+
+-- ---- `mAB ` and `mBA `
 
 module _ (walk : Walk) (limit : ℕ) (t : List ℕ) (words : ℕ) where
   pub record Accepted (a : Answer) : Type 0 where
@@ -39,63 +60,120 @@ module _ (walk : Walk) (limit : ℕ) (t : List ℕ) (words : ℕ) where
     pub room : recordsNeeded t ≤ words / recordWords
     pub answer-is : a ≡ valueFrom t (table .start) (lengthOf table) (table .size)
 
-  -- of a state that is a value
+  -- of an answer that is a value
   abbrev Behind : Answer → Type 0
-  Behind a = (f : Abm) → a .state ≡ abm f → Accepted a
+  Behind a = IsValue (a .state) → Accepted a
 
   judged-behind : ltb 4 (inputs t) && ltb 4 (outputs t) ≡ false → matrixJudged t ≡ good → (table : Table) → tableOf t ≡ is table → (j : Judged) → runsJudged walk limit t (planOf t) ≡ j → Behind (orRefused j (recordedOf t words (table .start) (lengthOf table) (table .size)))
   unfolding recordedOf
   judged-behind few m table e good r =
-      each Behind (ltb (words / recordWords) (recordsNeeded t)) _ _ (λ _ f h. not-refused refl f h)
-      (λ l f h. record { few-channels = few; matrix-good = m; table = table; table-is = e; runs-good = r; room = ltb-false (words / recordWords) (recordsNeeded t) l; answer-is = refl })
-  judged-behind few m table e (bad n) r = λ f h. not-refused refl f h
+      each Behind (ltb (words / recordWords) (recordsNeeded t)) _ _ (λ _ v. not-refused refl v)
+      (λ l v. record { few-channels = few; matrix-good = m; table = table; table-is = e; runs-good = r; room = ltb-false (words / recordWords) (recordsNeeded t) l; answer-is = refl })
+  judged-behind few m table e (bad n) r = λ v. not-refused refl v
 
   table-behind : ltb 4 (inputs t) && ltb 4 (outputs t) ≡ false → matrixJudged t ≡ good → (x : Seen) → tableOf t ≡ x → Behind (withTable walk limit t words x)
   unfolding judgedOf
   table-behind few m (is table) e = judged-behind few m table e (runsJudged walk limit t (planOf t)) refl
-  table-behind few m (no n) e = λ f h. not-refused refl f h
+  table-behind few m (no n) e = λ v. not-refused refl v
 
   matrix-behind : ltb 4 (inputs t) && ltb 4 (outputs t) ≡ false → (j : Judged) → matrixJudged t ≡ j → Behind (orRefused j (withTable walk limit t words (tableOf t)))
   matrix-behind few good m = table-behind few m (tableOf t) refl
-  matrix-behind few (bad n) m = λ f h. not-refused refl f h
+  matrix-behind few (bad n) m = λ v. not-refused refl v
 
-  pub accepted : (f : Abm) → abmOf walk limit t words .state ≡ abm f → Accepted (abmOf walk limit t words)
-  unfolding abmOf
+  pub accepted : IsValue (abmOf walk limit t words .state) → Accepted (abmOf walk limit t words)
+  unfolding abmOf IsValue
   accepted =
-      each Behind (ltb 4 (inputs t) && ltb 4 (outputs t)) _ _ (λ _ f h. let z : _≡_ {A = ℕ} 0 1 = cc in absurd (omega arith))
+      each Behind (ltb 4 (inputs t) && ltb 4 (outputs t)) _ _ (λ _ v. absurd v)
       (λ few. matrix-behind few (matrixJudged t) refl)
 
 -- ---- a tag in its profile
 
-pub record Found (walk : Walk) (limit : ℕ) (p : List ℕ) (entry size words : ℕ) : Type 0 where
-  pub tag-in-profile : entry + countedSize size ≤ length p
-  pub long : 48 ≤ countedSize size
-  pub type-is : (u32At (tagOf p entry size) 0 ≡ signatureOf Mab) ⊎ (u32At (tagOf p entry size) 0 ≡ signatureOf Mba)
-  pub as-tag : lutOf walk limit p entry size words ≡ abmOf walk limit (tagOf p entry size) words
-
-module _ (walk : Walk) (limit : ℕ) (p : List ℕ) (entry size words : ℕ) where
-  abbrev FoundBy : Answer → Type 0
-  FoundBy a = (f : Abm) → a .state ≡ abm f → ((u32At (tagOf p entry size) 0 ≡ signatureOf Mab) ⊎ (u32At (tagOf p entry size) 0 ≡ signatureOf Mba)) × (a ≡ abmOf walk limit (tagOf p entry size) words)
-
-  type-found : FoundBy (byType walk limit (tagOf p entry size) words)
-  unfolding byType
-  type-found =
-      let t : List ℕ = tagOf p entry size in
-      each FoundBy (eqb (u32At t 0) (signatureOf Mab)) _ _ (λ e f h. (inl (eqb-true _ _ e), refl))
-      (λ _. each FoundBy (eqb (u32At t 0) (signatureOf Mba)) _ _ (λ e f h. (inr (eqb-true _ _ e), refl)) (λ _ f h. not-refused refl f h))
-
+module _ (walk : Walk) (limit points : ℕ) (p : List ℕ) (entry size words : ℕ) where
   abbrev FoundIn : Answer → Type 0
-  FoundIn a = (f : Abm) → a .state ≡ abm f → (entry + countedSize size ≤ length p) × (48 ≤ countedSize size) × (a ≡ byType walk limit (tagOf p entry size) words)
+  FoundIn a = IsValue (a .state) → (entry + countedSize size ≤ length p) × (48 ≤ countedSize size) × (a ≡ byType walk limit points (tagOf p entry size) words)
 
-  in-profile : FoundIn (lutOf walk limit p entry size words)
+  pub in-profile : FoundIn (lutOf walk limit points p entry size words)
   unfolding lutOf
   in-profile =
-      each FoundIn (ltb (length p) (entry + countedSize size)) _ _ (λ _ f h. not-refused refl f h)
-      (λ l. each FoundIn (ltb (countedSize size) 48) _ _ (λ _ f h. not-refused refl f h)
-      (λ m f h. (ltb-false (length p) (entry + countedSize size) l, ltb-false (countedSize size) 48 m, refl)))
+      each FoundIn (ltb (length p) (entry + countedSize size)) _ _ (λ _ v. not-refused refl v)
+      (λ l. each FoundIn (ltb (countedSize size) 48) _ _ (λ _ v. not-refused refl v)
+      (λ m v. (ltb-false (length p) (entry + countedSize size) l, ltb-false (countedSize size) 48 m, refl)))
 
-  pub found : (f : Abm) → lutOf walk limit p entry size words .state ≡ abm f → Found walk limit p entry size words
-  found f h =
-      let v = in-profile f h in
-      let w = type-found f (ap (λ (a : Answer). a .state) (sym (v .2)) ∙ h) in
-      record { tag-in-profile = v .0; long = v .1; type-is = w .0; as-tag = v .2 ∙ w .1 }
+-- ---- by its type
+
+-- what `mft1` and `mft2` give is theirs
+mft-only : (t : List ℕ) (x : Mft·State) (f : Abm) → fromMft (answerOf t x) .state ≡ abm f → ⊥
+unfolding answerOf
+mft-only t (Mft·State.value g) f h = let z : _≡_ {A = ℕ} 0 1 = cc in omega arith
+mft-only t (Mft·State.refused n) f h = let z : _≡_ {A = ℕ} 0 1 = cc in omega arith
+
+mft-read : (t : List ℕ) (x : Mft·State) (f : Fields) → fromMft (answerOf t x) .state ≡ mft f → x ≡ Mft·State.value f
+unfolding answerOf
+mft-read t (Mft·State.value g) f h = let e : g ≡ f = cc in ap Mft·State.value e
+mft-read t (Mft·State.refused n) f h = let z : _≡_ {A = ℕ} 0 1 = cc in absurd (omega arith)
+
+module _ (walk : Walk) (limit points : ℕ) (t : List ℕ) (words : ℕ) where
+  -- and what `mAB ` and `mBA ` give is theirs
+  abm-only : (f : Fields) → abmOf walk limit t words .state ≡ mft f → ⊥
+  unfolding valueFrom
+  abm-only f h =
+      let v = accepted walk limit t words (mft-value h) in
+      let e = ap (λ (a : Answer). a .state) (sym (v .answer-is)) ∙ h in
+      let z : _≡_ {A = ℕ} 0 1 = cc in omega arith
+
+  abbrev ByAbm : Answer → Type 0
+  ByAbm a = (f : Abm) → a .state ≡ abm f → ((u32At t 0 ≡ signatureOf Mab) ⊎ (u32At t 0 ≡ signatureOf Mba)) × (a ≡ abmOf walk limit t words)
+
+  by-abm : ByAbm (byType walk limit points t words)
+  unfolding byType
+  by-abm =
+      each ByAbm (isMft t) _ _ (λ _ f h. absurd (mft-only t (mftOf points t) f h))
+      (λ _. each ByAbm (eqb (u32At t 0) (signatureOf Mab)) _ _ (λ e f h. (inl (eqb-true _ _ e), refl))
+      (λ _. each ByAbm (eqb (u32At t 0) (signatureOf Mba)) _ _ (λ e f h. (inr (eqb-true _ _ e), refl)) (λ _ f h. not-refused refl (abm-value h))))
+
+  abbrev ByMft : Answer → Type 0
+  ByMft a = (f : Fields) → a .state ≡ mft f → (mftOf points t ≡ Mft·State.value f) × (a ≡ fromMft (answerOf t (mftOf points t)))
+
+  by-mft : ByMft (byType walk limit points t words)
+  unfolding byType
+  by-mft =
+      each ByMft (isMft t) _ _ (λ _ f h. (mft-read t (mftOf points t) f h, refl))
+      (λ _. each ByMft (eqb (u32At t 0) (signatureOf Mab)) _ _ (λ e f h. absurd (abm-only f h))
+      (λ _. each ByMft (eqb (u32At t 0) (signatureOf Mba)) _ _ (λ e f h. absurd (abm-only f h)) (λ _ f h. not-refused refl (mft-value h))))
+
+-- ---- both together
+
+module _ (walk : Walk) (limit points : ℕ) (p : List ℕ) (entry size words : ℕ) where
+  abbrev answer : Answer
+  answer = lutOf walk limit points p entry size words
+
+  pub record AbmFound : Type 0 where
+    pub tag-in-profile : entry + countedSize size ≤ length p
+    pub long : 48 ≤ countedSize size
+    pub type-is : (u32At (tagOf p entry size) 0 ≡ signatureOf Mab) ⊎ (u32At (tagOf p entry size) 0 ≡ signatureOf Mba)
+    pub as-abm : answer ≡ abmOf walk limit (tagOf p entry size) words
+    pub behind : Accepted walk limit (tagOf p entry size) words (abmOf walk limit (tagOf p entry size) words)
+
+  pub abm-found : (f : Abm) → answer .state ≡ abm f → AbmFound
+  abm-found f h =
+      let v = in-profile walk limit points p entry size words (abm-value h) in
+      let w = by-abm walk limit points (tagOf p entry size) words f (ap (λ (a : Answer). a .state) (sym (v .2)) ∙ h) in
+      let e = v .2 ∙ w .1 in
+      record {
+        tag-in-profile = v .0;
+        long = v .1;
+        type-is = w .0;
+        as-abm = e;
+        behind = accepted walk limit (tagOf p entry size) words (abm-value (ap (λ (a : Answer). a .state) (sym e) ∙ h));
+      }
+
+  pub record MftFound (f : Fields) : Type 0 where
+    pub tag-in-profile : entry + countedSize size ≤ length p
+    pub read-as : mftOf points (tagOf p entry size) ≡ Mft·State.value f
+    pub as-mft : answer ≡ fromMft (answerOf (tagOf p entry size) (mftOf points (tagOf p entry size)))
+
+  pub mft-found : (f : Fields) → answer .state ≡ mft f → MftFound f
+  mft-found f h =
+      let v = in-profile walk limit points p entry size words (mft-value h) in
+      let w = by-mft walk limit points (tagOf p entry size) words f (ap (λ (a : Answer). a .state) (sym (v .2)) ∙ h) in
+      record { tag-in-profile = v .0; read-as = w .0; as-mft = v .2 ∙ w .1 }

@@ -7,6 +7,7 @@ use Rattle.clut.specs.Table.{product}
 use Rattle.curve.specs.Curve.{curveOf, tableOf as curvOf, paraOf, divides}
 use Rattle.curve.specs.Layout.{parameterCount}
 use Rattle.curve.specs.Shape.{sizeOf, stepOf, wordsOf}
+use Rattle.mft.specs.Layout.{isWide, isMft}
 use Rattle.run.specs.Run.{raised, entryAt, runAt, recordsOf}
 use Rattle.lut.specs.Abm.{tableOf, valueFrom, recordedOf, judgedOf, abmOf}
 use Rattle.lut.specs.Cases.{All, Holds, cases}
@@ -16,5 +17,5 @@ use Rattle.lut.specs.Parts.{runsJudged, curvesOf, matrixJudged}
 use Rattle.lut.specs.Verdict.{ended}
 
 pub claim : All cases
-unfolding All Holds lutOf byType abmOf judgedOf recordedOf valueFrom tableOf product runsJudged curvesOf matrixJudged ended present deviceChannels spaceChannels aCurves mCurves bCurves planOf recordsNeeded gridOf matrixOf biasOf bytesAt wordsAt runAt entryAt raised recordsOf curveOf curvOf paraOf divides parameterCount sizeOf stepOf wordsOf signatureOf
+unfolding All Holds lutOf byType isMft isWide abmOf judgedOf recordedOf valueFrom tableOf product runsJudged curvesOf matrixJudged ended present deviceChannels spaceChannels aCurves mCurves bCurves planOf recordsNeeded gridOf matrixOf biasOf bytesAt wordsAt runAt entryAt raised recordsOf curveOf curvOf paraOf divides parameterCount sizeOf stepOf wordsOf signatureOf
 claim = ((refl, refl), ((refl, refl), ((refl, refl), ((refl, refl), ((refl, refl), tt)))))

@@ -1,4 +1,4 @@
--- Conformance to lutAToBType and lutBToAType on the book walk, both ways: a tag whose elements are laid out as the standard says, and keep
+-- Conformance to lutAToBType and lutBToAType on the book walk, and to lut8Type and lut16Type, both ways: a tag whose elements are laid out as the standard says, and keep
 -- within what this library asks besides, is accepted with its fields and its curves; and what is accepted is laid out so.
 -- Assumes nothing.
 use Prim.Native.Nat.{ℕ, _+_, _/_, _≤_}
@@ -21,20 +21,25 @@ use Rattle.clut.proofs.Conforms.{conforms as table-conforms, accepted as table-
 use Rattle.curve.specs.Curve.{curveOf}
 use Rattle.curve.specs.Shape.{Shape, stepOf, is as seen, no as unseen}
 use Rattle.curve.specs.Standard.{Laid, Within}
+use Rattle.curve.specs.declared.Walk.{Walk}
 use Rattle.curve.specs.declared.Walk.the-variants.{Book}
 use Rattle.curve.proofs.Conforms.{accepted as curve-accepted, laid as curve-laid}
 use Rattle.curve.proofs.Inside.{curve-inside, size-least, book-step}
+use Rattle.mft.specs.Answer.{Fields, State as Mft·State, answerOf, fieldsOf}
+use Rattle.mft.specs.Standard.{LaidOut as MftLaidOut, Asked as MftAsked}
+use Rattle.mft.proofs.Conforms.{start-least, start-before, type-known, conforms as mft-accepted, Accepted as MftAccepted, accepted as accepted-mft}
 use Rattle.run.specs.Run.{Placed, whole, raised, entryAt, runAt, endOf, recordWords, Each}
 use Rattle.run.proofs.Runs.{Reads, run-reads, reads-run, run-count}
 use Rattle.lut.specs.Abm.{noTable, tableOf, valueFrom, recordedOf, judgedOf, abmOf}
-use Rattle.lut.specs.Answer.{Abm, abm, Answer}
+use Rattle.lut.specs.Answer.{Abm, mft, abm, Answer, fromMft}
 use Rattle.lut.specs.Layout.{inputs, outputs, aOffset, mOffset, bOffset, matrixOffset, clutOffset, aCurves, mCurves, bCurves, planOf, recordsNeeded}
 use Rattle.lut.specs.Lut.{tagOf, byType, lutOf}
 use Rattle.lut.specs.Parts.{runA, runM, runB, runsJudged, curvesOf, matrixJudged}
 use Rattle.lut.specs.Standard.{Row, TableThere, TableNot, LaidOut, Kept, Asked}
 use Rattle.lut.specs.Verdict.{good, ended}
-use Rattle.lut.proofs.Accepted.{accepted, found}
+use Rattle.lut.proofs.Accepted.{abm-found, mft-found}
 use Rattle.lut.proofs.Inside.{matrix-inside}
+use Rattle.lut.proofs.Laws.{mab-is, mba-is}
 use Rattle.lut.proofs.PartLaws.{a-whole, m-whole, b-whole}
 
 -- ---- one run
@@ -125,23 +130,23 @@ module _ (limit : ℕ) (t : List ℕ) (table : Table) (a m b : List Placed) (h :
   conforms-curves = rw (run-a, run-m, run-b)
 
 -- either type is read alike
-either-type : (limit : ℕ) (t : List ℕ) (words : ℕ) → (u32At t 0 ≡ signatureOf Mab) ⊎ (u32At t 0 ≡ signatureOf Mba) → byType Book limit t words ≡ abmOf Book limit t words
+either-type : (limit points : ℕ) (t : List ℕ) (words : ℕ) → (u32At t 0 ≡ signatureOf Mab) ⊎ (u32At t 0 ≡ signatureOf Mba) → byType Book limit points t words ≡ abmOf Book limit t words
 unfolding byType
-either-type limit t words (inl e) = rw (eq-eqb (u32At t 0) (signatureOf Mab) e)
-either-type limit t words (inr e) = rw (eq-eqb (u32At t 0) (signatureOf Mba) e) (by (eqb (u32At t 0) (signatureOf Mab)))
+either-type limit points t words (inl e) = rw (mab-is t e, eq-eqb (u32At t 0) (signatureOf Mab) e)
+either-type limit points t words (inr e) = rw (mba-is t e, eq-eqb (u32At t 0) (signatureOf Mba) e) (by (eqb (u32At t 0) (signatureOf Mab)))
   where
     by : (b : Bool) → cond b (abmOf Book limit t words) (abmOf Book limit t words) ≡ abmOf Book limit t words
     by true = refl
     by false = refl
 
 -- in a profile: a tag that lies in it and is laid out so is accepted with its fields, if the slots suffice
-pub lone-conforms : (limit : ℕ) (p : List ℕ) (entry size : ℕ) (table : Table) (a m b : List Placed) → entry + countedSize size ≤ length p → LaidOut (tagOf p entry size) table a m b → Asked limit (tagOf p entry size) table a m b → (words : ℕ) → recordsNeeded (tagOf p entry size) ≤ words / recordWords → lutOf Book limit p entry size words ≡ valueFrom (tagOf p entry size) (table .start) (lengthOf table) (table .size)
+pub lone-conforms : (limit points : ℕ) (p : List ℕ) (entry size : ℕ) (table : Table) (a m b : List Placed) → entry + countedSize size ≤ length p → LaidOut (tagOf p entry size) table a m b → Asked limit (tagOf p entry size) table a m b → (words : ℕ) → recordsNeeded (tagOf p entry size) ≤ words / recordWords → lutOf Book limit points p entry size words ≡ valueFrom (tagOf p entry size) (table .start) (lengthOf table) (table .size)
 unfolding lutOf
-lone-conforms limit p entry size table a m b l h k words room =
+lone-conforms limit points p entry size table a m b l h k words room =
     let t : List ℕ = tagOf p entry size in
     let long : 48 ≤ countedSize size = omega (arith, k .long, length-take (countedSize size) (drop entry p)) in
     rw (le-ltb (length p) (entry + countedSize size) l, le-ltb (countedSize size) 48 long)
-    (either-type limit t words (h .type-is) ∙ conforms limit t table a m b h k words room)
+    (either-type limit points t words (h .type-is) ∙ conforms limit t table a m b h k words room)
 
 -- what is accepted is laid out so, and keeps within what is asked
 pub record Laying (limit : ℕ) (t : List ℕ) (answer : Answer) : Type 0 where
@@ -150,12 +155,12 @@ pub record Laying (limit : ℕ) (t : List ℕ) (answer : Answer) : Type 0 where
   pub asked : Asked limit t table (runA Book limit t (planOf t) .curves) (runM Book limit t (planOf t) .curves) (runB Book limit t (planOf t) .curves)
   pub answer-is : answer ≡ valueFrom t (table .start) (lengthOf table) (table .size)
 
-pub laid : (limit : ℕ) (p : List ℕ) (entry size words : ℕ) (f : Abm) → lutOf Book limit p entry size words .state ≡ abm f → Laying limit (tagOf p entry size) (lutOf Book limit p entry size words)
+pub laid : (limit points : ℕ) (p : List ℕ) (entry size words : ℕ) (f : Abm) → lutOf Book limit points p entry size words .state ≡ abm f → Laying limit (tagOf p entry size) (lutOf Book limit points p entry size words)
 unfolding planOf
-laid limit p entry size words f h =
+laid limit points p entry size words f h =
     let t : List ℕ = tagOf p entry size in
-    let v = found Book limit p entry size words f h in
-    let w = accepted Book limit t words f (ap (λ (a : Answer). a .state) (sym (v .as-tag)) ∙ h) in
+    let v = abm-found Book limit points p entry size words f h in
+    let w = v .behind in
     let c = table-found t (w .table) (w .table-is) in
     let a = reads-row limit t (aOffset t) _ (run-reads Book limit t (aOffset t) (aCurves t)) in
     let m = reads-row limit t (mOffset t) _ (run-reads Book limit t (mOffset t) (mCurves t)) in
@@ -183,5 +188,19 @@ laid limit p entry size words f h =
             m-kept = m .1;
             b-kept = b .1;
           };
-      answer-is = v .as-tag ∙ w .answer-is;
+      answer-is = v .as-abm ∙ w .answer-is;
     }
+
+-- ---- `mft1` and `mft2`, on either walk
+
+-- in a profile: a tag that lies in it and is laid out so is accepted with its fields, whatever the slots
+pub mft-conforms : (walk : Walk) (limit points : ℕ) (p : List ℕ) (entry size words : ℕ) → entry + countedSize size ≤ length p → MftLaidOut (tagOf p entry size) → MftAsked points (tagOf p entry size) → lutOf walk limit points p entry size words ≡ fromMft (answerOf (tagOf p entry size) (Mft·State.value (fieldsOf (tagOf p entry size))))
+unfolding lutOf byType
+mft-conforms walk limit points p entry size words l h k =
+    let t : List ℕ = tagOf p entry size in
+    let long : 48 ≤ countedSize size = omega (arith, start-least t, start-before t, h .whole, length-take (countedSize size) (drop entry p)) in
+    rw (le-ltb (length p) (entry + countedSize size) l, le-ltb (countedSize size) 48 long, type-known t (h .type-is), mft-accepted points t h k)
+
+-- what is accepted is laid out so, and keeps within what is asked
+pub mft-laid : (walk : Walk) (limit points : ℕ) (p : List ℕ) (entry size words : ℕ) (f : Fields) → lutOf walk limit points p entry size words .state ≡ mft f → MftAccepted points (tagOf p entry size) f
+mft-laid walk limit points p entry size words f h = accepted-mft points (tagOf p entry size) f (mft-found walk limit points p entry size words f h .read-as)

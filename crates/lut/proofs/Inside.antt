@@ -1,5 +1,5 @@
--- Demand 1 of `mAB ` and `mBA `, on both walks: in an accepted answer each curve, the matrix and the colour table lie inside the tag, the
--- tag lies inside the profile, and each valid grid index reads inside the colour table.
+-- Demand 1 of lookup tables, on both walks: in an accepted answer each curve, the matrix and each table lie inside the tag, the tag lies
+-- inside the profile, and each valid grid index reads inside the colour table.
 -- Assumes nothing.
 use Prim.Native.Nat.{ℕ, _+_, _*_, _≤_, _<_, min}
 use native.Mathlib.Omega.{arith}
@@ -20,16 +20,18 @@ use Rattle.clut.proofs.Conforms.{accepted as laid-out}
 use Rattle.clut.proofs.Grid.{entry-below}
 use Rattle.clut.proofs.Inside.{inside}
 use Rattle.curve.specs.declared.Walk.{Walk}
+use Rattle.mft.specs.Answer.{Fields}
+use Rattle.mft.proofs.Inside.{Inside as MftInside, inside as inside-mft}
 use Rattle.run.specs.Run.{Placed, endOf, recordWords, recordsOf, dataEnd, Each}
 use Rattle.run.proofs.Records.{records-end}
 use Rattle.run.proofs.Runs.{run-inside}
 use Rattle.lut.specs.Abm.{noTable, tableOf, valueFrom, toldTable, abmOf}
-use Rattle.lut.specs.Answer.{Abm, abm, Answer, leftBy}
+use Rattle.lut.specs.Answer.{Abm, mft, abm, Answer, leftBy}
 use Rattle.lut.specs.Layout.{recordsNeeded, inputs, outputs, matrixOffset, clutOffset, aOffset, mOffset, bOffset, aCurves, mCurves, bCurves, planOf, gridOf}
 use Rattle.lut.specs.Lut.{tagOf, lutOf}
 use Rattle.lut.specs.Parts.{curvesOf, matrixJudged}
 use Rattle.lut.specs.Verdict.{good, bad}
-use Rattle.lut.proofs.Accepted.{accepted, found}
+use Rattle.lut.proofs.Accepted.{abm-found, mft-found}
 use Rattle.lut.proofs.Needed.{needed-curves}
 
 each-append : (P : Placed → Type 0) (k m : List Placed) → Each P k → Each P m → Each P (k ++ m)
@@ -81,7 +83,7 @@ table-told t table = by (eqb (clutOffset t) 0)
 told-length : (grid : List ℕ) (f : Abm) (table : Table) → take (min (f .inputs) 16) grid ≡ table .grid → f .outputs ≡ table .outputs → f .size ≡ table .size → lengthOf (toldTable grid f) ≡ lengthOf table
 told-length grid f table a b c = rw (a, b, c) refl
 
--- told of the answer's own numbers
+-- ---- `mAB ` and `mBA `, told of the answer's own numbers
 pub record Inside (walk : Walk) (limit : ℕ) (p : List ℕ) (entry size : ℕ) (grid : List ℕ) (f : Abm) : Type 0 where
   pub tag-in-profile : entry + countedSize size ≤ length p
   pub curves-in-tag : Each (λ c. endOf c ≤ length (tagOf p entry size)) (curvesOf walk limit (tagOf p entry size) (planOf (tagOf p entry size)))
@@ -90,13 +92,13 @@ pub record Inside (walk : Walk) (limit : ℕ) (p : List ℕ) (entry size : ℕ) 
   pub table-in-tag : f .start + f .bytes ≤ length (tagOf p entry size)
   pub entry-in-table : 1 ≤ f .size → (index : List ℕ) (channel : ℕ) → inGrid (toldTable grid f .grid) index ≡ true → channel < f .outputs → numberOf (toldTable grid f) index channel * f .size + f .size ≤ f .bytes
 
-pub lut-inside : (walk : Walk) (limit : ℕ) (p : List ℕ) (entry size words : ℕ) (f : Abm) → lutOf walk limit p entry size words .state ≡ abm f → Inside walk limit p entry size (lutOf walk limit p entry size words .grid) f
+pub lut-inside : (walk : Walk) (limit points : ℕ) (p : List ℕ) (entry size words : ℕ) (f : Abm) → lutOf walk limit points p entry size words .state ≡ abm f → Inside walk limit p entry size (lutOf walk limit points p entry size words .grid) f
 unfolding valueFrom recordsNeeded
-lut-inside walk limit p entry size words f h =
+lut-inside walk limit points p entry size words f h =
     let t : List ℕ = tagOf p entry size in
-    let w = found walk limit p entry size words f h in
-    let g : abmOf walk limit t words .state ≡ abm f = ap (λ (a : Answer). a .state) (sym (w .as-tag)) ∙ h in
-    let v = accepted walk limit t words f g in
+    let w = abm-found walk limit points p entry size words f h in
+    let g : abmOf walk limit t words .state ≡ abm f = ap (λ (a : Answer). a .state) (sym (w .as-abm)) ∙ h in
+    let v = w .behind in
     let e : abm f ≡ valueFrom t (v .table .start) (lengthOf (v .table)) (v .table .size) .state = sym g ∙ ap (λ (a : Answer). a .state) (v .answer-is) in
     let e₁ : f .start ≡ v .table .start = cc in
     let e₂ : f .bytes ≡ lengthOf (v .table) = cc in
@@ -106,8 +108,8 @@ lut-inside walk limit p entry size words f h =
     let e₆ : f .a ≡ aCurves t = cc in
     let e₇ : f .m ≡ mCurves t = cc in
     let e₈ : f .b ≡ bCurves t = cc in
-    let grid : List ℕ = lutOf walk limit p entry size words .grid in
-    let g₁ : grid ≡ gridOf t = ap (λ (a : Answer). a .grid) (w .as-tag ∙ v .answer-is) in
+    let grid : List ℕ = lutOf walk limit points p entry size words .grid in
+    let g₁ : grid ≡ gridOf t = ap (λ (a : Answer). a .grid) (w .as-abm ∙ v .answer-is) in
     let told : 1 ≤ f .size → lengthOf (toldTable grid f) ≡ f .bytes =
     λ l. let k = table-told t (v .table) (v .table-is) (omega (arith, e₃)) in
     let same : take (min (f .inputs) 16) grid ≡ take (min (inputs t) 16) (gridOf t) = cc in
@@ -120,3 +122,10 @@ lut-inside walk limit p entry size words f h =
       table-in-tag = omega (arith, e₁, e₂, table-inside t (v .table) (v .table-is));
       entry-in-table = λ l index channel valid low. omega (arith, entry-below (toldTable grid f) index channel valid low, told l);
     }
+
+-- ---- `mft1` and `mft2`
+
+pub mft-inside : (walk : Walk) (limit points : ℕ) (p : List ℕ) (entry size words : ℕ) (f : Fields) → lutOf walk limit points p entry size words .state ≡ mft f → (entry + countedSize size ≤ length p) × MftInside (tagOf p entry size) f
+mft-inside walk limit points p entry size words f h =
+    let w = mft-found walk limit points p entry size words f h in
+    (w .tag-in-profile, inside-mft points (tagOf p entry size) f (w .read-as))

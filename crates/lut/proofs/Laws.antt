@@ -5,8 +5,9 @@ use native.Mathlib.Omega.{arith}
 use mathlib.Core.Path.{_≡_, refl, sym, _∙_, ap}
 use mathlib.Core.Bool.{Bool, true, false, _&&_}
 use mathlib.Core.List.{List, [], _∷_, _++_}
+use mathlib.Core.Logic.{inl, inr}
 use lib.Dec.{ltb}
-use lib.ListN.{length, getD, take, drop, length-take}
+use lib.ListN.{length, getD, take, drop, replicate, length-take}
 use types.Run.{OneOf}
 use denote.Enum.Declared.{tagOf as placeIn}
 use borrow.Author.Tests.{eq-eqb, ne-eqb, lt-ltb, le-ltb}
@@ -15,7 +16,7 @@ use Rattle.fields.specs.Place.{placeOf, countedSize}
 use Rattle.fields.specs.Refusals.{numberOf}
 use Rattle.fields.specs.Tag.{signatureOf, kindOf as namedBy}
 use Rattle.fields.specs.declared.Kind.{Kind}
-use Rattle.fields.specs.declared.Kind.the-variants.{Mab, Mba}
+use Rattle.fields.specs.declared.Kind.the-variants.{Mft1, Mft2, Mab, Mba}
 use Rattle.fields.specs.declared.Place.{Place}
 use Rattle.fields.specs.declared.Place.the-variants.{In, Past}
 use Rattle.fields.specs.declared.Refusal.{Refusal}
@@ -28,14 +29,21 @@ use Rattle.clut.specs.Table.{product, lengthOf}
 use Rattle.clut.specs.declared.ClutAnswer.{ClutAnswer}
 use Rattle.clut.specs.declared.ColourTable.{ColourTable}
 use Rattle.curve.specs.declared.Walk.{Walk}
+use Rattle.mft.specs.Answer.{State as Mft·State, fieldsFrom, answerOf, paper as Mft·paper}
+use Rattle.mft.specs.Layout.{isWide, isMft}
+use Rattle.mft.specs.Mft.{mftOf}
+use Rattle.mft.specs.declared.Mft.{Mft}
+use Rattle.mft.specs.declared.MftAnswer.{MftAnswer}
+use Rattle.mft.specs.declared.MftTable.{MftTable}
+use Rattle.mft.proofs.Conforms.{type-known}
 use Rattle.run.specs.Run.{recordWords, recordsOf}
 use Rattle.lut.specs.Abm.{tableOf, valueFrom, recordedOf, judgedOf, withTable, abmOf}
-use Rattle.lut.specs.Answer.{abm, Answer, none, refuse, paper}
+use Rattle.lut.specs.Answer.{mft, abm, refused, Answer, none, refuse, mftState, fromMft, paper, leftBy}
 use Rattle.lut.specs.Layout.{toPcs, inputs, outputs, planOf, Planned, recordsNeeded, gridOf, matrixOf, biasOf}
 use Rattle.lut.specs.Lut.{Said, tagOf, byType, lutOf}
 use Rattle.lut.specs.Parts.{runsJudged, curvesOf, matrixJudged}
 use Rattle.lut.specs.Verdict.{good, judgedFrom}
-use Rattle.lut.specs.declared.abm.Lut.{Lut}
+use Rattle.lut.specs.declared.answer.Lut.{Lut}
 use Rattle.lut.specs.declared.abm.Plan.{Plan}
 use Rattle.lut.specs.declared.nested.Verdict.{Verdict}
 use Rattle.lut.proofs.PartLaws.{all-length}
@@ -153,43 +161,73 @@ module _ (walk : Walk) (limit : ℕ) (t s : List ℕ) (b : Bool) (h : b ≡ ltb 
 
 -- ---- the type
 
+module _ (got : Mft) where
+  pub mft-valued : (table : MftTable) → got .answer ≡ MftAnswer.Value table → record { state = mft (fieldsFrom table); grid = replicate 16 0; matrix = got .matrix; bias = replicate 3 0 } ≡ fromMft (Mft·paper got)
+  mft-valued table e = rw e refl
+
+  pub mft-refused : (why : Refusal) → got .answer ≡ MftAnswer.Refused why → record { state = refused (numberOf why); grid = replicate 16 0; matrix = got .matrix; bias = replicate 3 0 } ≡ fromMft (Mft·paper got)
+  mft-refused why e = rw e refl
+
+-- what is read of `mft1` and `mft2` leaves the slots
+mft-leaves : (a : Mft·State) (records slots : List ℕ) → leftBy (mftState a) records slots ≡ slots
+mft-leaves (Mft·State.value f) records slots = refl
+mft-leaves (Mft·State.refused n) records slots = refl
+
+pub mab-is : (t : List ℕ) → u32At t 0 ≡ signatureOf Mab → isMft t ≡ false
+unfolding isMft isWide signatureOf
+mab-is t e = rw e refl
+
+pub mba-is : (t : List ℕ) → u32At t 0 ≡ signatureOf Mba → isMft t ≡ false
+unfolding isMft isWide signatureOf
+mba-is t e = rw e refl
+
 mab-mba : signatureOf Mba ≡ signatureOf Mab → ⊥
 unfolding signatureOf
 mab-mba e = omega arith
 
-module _ (walk : Walk) (limit : ℕ) (t s : List ℕ) (k : Kind) (h : k ≡ namedBy (u32At t 0)) (r : Lut) where
-  pub kind-mab : k ≡ Mab → (s' : List ℕ) → Said walk limit t (abmOf walk limit t (length s)) r s s' → Said walk limit t (byType walk limit t (length s)) r s s'
+module _ (walk : Walk) (limit points : ℕ) (t s : List ℕ) (k : Kind) (h : k ≡ namedBy (u32At t 0)) (r : Lut) where
+  read-mft : isMft t ≡ true → (got : Mft) → Mft·paper got ≡ answerOf t (mftOf points t) → paper r ≡ fromMft (Mft·paper got) → Said walk limit t (byType walk limit points t (length s)) r s s
+  unfolding byType
+  read-mft i got e g = rw i record { answer-is = g ∙ ap fromMft e; left-is = sym (mft-leaves (answerOf t (mftOf points t) .state) _ s) }
+
+  pub kind-mft1 : k ≡ Mft1 → (got : Mft) → Mft·paper got ≡ answerOf t (mftOf points t) → paper r ≡ fromMft (Mft·paper got) → Said walk limit t (byType walk limit points t (length s)) r s s
+  kind-mft1 e = read-mft (type-known t (inl (arm _ Mft1 (λ o. let z : _≡_ {A = ℕ} 0 1 = cc in omega arith) h e)))
+
+  pub kind-mft2 : k ≡ Mft2 → (got : Mft) → Mft·paper got ≡ answerOf t (mftOf points t) → paper r ≡ fromMft (Mft·paper got) → Said walk limit t (byType walk limit points t (length s)) r s s
+  kind-mft2 e = read-mft (type-known t (inr (arm _ Mft2 (λ o. let z : _≡_ {A = ℕ} 0 1 = cc in omega arith) h e)))
+
+  pub kind-mab : k ≡ Mab → (s' : List ℕ) → Said walk limit t (abmOf walk limit t (length s)) r s s' → Said walk limit t (byType walk limit points t (length s)) r s s'
   unfolding byType
   kind-mab e s' g =
       let i : u32At t 0 ≡ signatureOf Mab = arm _ Mab (λ o. let z : _≡_ {A = ℕ} 0 1 = cc in omega arith) h e in
-      same walk limit t s _ r _ s' (rw (eq-eqb _ _ i)) g
+      same walk limit t s _ r _ s' (rw (mab-is t i, eq-eqb _ _ i)) g
 
-  pub kind-mba : k ≡ Mba → (s' : List ℕ) → Said walk limit t (abmOf walk limit t (length s)) r s s' → Said walk limit t (byType walk limit t (length s)) r s s'
+  pub kind-mba : k ≡ Mba → (s' : List ℕ) → Said walk limit t (abmOf walk limit t (length s)) r s s' → Said walk limit t (byType walk limit points t (length s)) r s s'
   unfolding byType
   kind-mba e s' g =
       let i : u32At t 0 ≡ signatureOf Mba = arm _ Mba (λ o. let z : _≡_ {A = ℕ} 0 1 = cc in omega arith) h e in
       let n : u32At t 0 ≡ signatureOf Mab → ⊥ = λ m. mab-mba (sym i ∙ m) in
-      same walk limit t s _ r _ s' (rw (ne-eqb _ _ n, eq-eqb _ _ i)) g
+      same walk limit t s _ r _ s' (rw (mba-is t i, ne-eqb _ _ n, eq-eqb _ _ i)) g
 
-  pub kind-other : OneOf (others (Mab ∷ Mba ∷ [])) (placeIn kinds.the-type k) → paper r ≡ refuse 3 → Said walk limit t (byType walk limit t (length s)) r s s
-  unfolding byType
+  pub kind-other : OneOf (others (Mft1 ∷ Mft2 ∷ Mab ∷ Mba ∷ [])) (placeIn kinds.the-type k) → paper r ≡ refuse 3 → Said walk limit t (byType walk limit points t (length s)) r s s
+  unfolding byType isMft isWide
   kind-other o g =
-      let rest = others (Mab ∷ Mba ∷ []) in
-      refusing walk limit t s _ r 3 (rw (ne-eqb _ _ (unlike _ Mab rest refl h o), ne-eqb _ _ (unlike _ Mba rest refl h o))) g
+      let rest = others (Mft1 ∷ Mft2 ∷ Mab ∷ Mba ∷ []) in
+      refusing walk limit t s _ r 3 (rw (ne-eqb _ _ (unlike _ Mft1 rest refl h o), ne-eqb _ _ (unlike _ Mft2 rest refl h o), ne-eqb _ _ (unlike _ Mab rest refl h o), ne-eqb _ _ (unlike _ Mba rest refl h o))) g
 
 -- ---- the tag in its profile
 
-module _ (walk : Walk) (limit : ℕ) (p s : List ℕ) (entry size end : ℕ) (n : end ≡ countedSize size) (place : Place) (h : place ≡ placeOf (length p) entry end) (r : Lut) where
-  pub lut-past : place ≡ Past → paper r ≡ refuse 1 → Said walk limit (tagOf p entry size) (lutOf walk limit p entry size (length s)) r s s
+module _ (walk : Walk) (limit points : ℕ) (p s : List ℕ) (entry size end : ℕ) (n : end ≡ countedSize size) (place : Place) (h : place ≡ placeOf (length p) entry end) (r : Lut) where
+  pub lut-past : place ≡ Past → paper r ≡ refuse 1 → Said walk limit (tagOf p entry size) (lutOf walk limit points p entry size (length s)) r s s
   unfolding lutOf
   lut-past e g = refusing walk limit _ s _ r 1 (rw (← n, lt-ltb _ _ (past _ _ _ h e))) g
 
   module _ (from to : ℕ) (e : place ≡ In from to) where
-    pub lut-short : end < 48 → paper r ≡ refuse 2 → Said walk limit (tagOf p entry size) (lutOf walk limit p entry size (length s)) r s s
+    pub lut-short : end < 48 → paper r ≡ refuse 2 → Said walk limit (tagOf p entry size) (lutOf walk limit points p entry size (length s)) r s s
     unfolding lutOf
     lut-short l g = let i = inside _ _ _ h e in refusing walk limit _ s _ r 2 (rw (← n, le-ltb _ _ (i .fits), lt-ltb _ _ l)) g
 
-    pub lut-kind : 48 ≤ end → (s' : List ℕ) → Said walk limit (take (to - from) (drop from p)) (byType walk limit (take (to - from) (drop from p)) (length s)) r s s' → Said walk limit (tagOf p entry size) (lutOf walk limit p entry size (length s)) r s s'
+    pub lut-kind : 48 ≤ end → (s' : List ℕ) → Said walk limit (take (to - from) (drop from p)) (byType walk limit points (take (to - from) (drop from p)) (length s)) r s s' → Said walk limit (tagOf p entry size) (lutOf walk limit points p entry size (length s)) r s s'
     unfolding lutOf
     lut-kind l s' g =
         let i = inside _ _ _ h e in

@@ -1,14 +1,15 @@
--- Demand 3 of lookup tables. Bytes behind the profile keep every answer but refusal 1; a higher limit every one but refusal 10; more slots
--- every one but refusal 14. A value keeps its records too.
+-- Demand 3 of lookup tables. Bytes behind the profile keep every answer but refusal 1; a higher limit of curve entries every one but refusal
+-- 10, of grid points but refusal 16; more slots every one but refusal 14. A value keeps its records too.
 -- Assumes nothing.
 use Prim.Native.Nat.{ℕ, _+_, _/_, _≤_}
 use native.Mathlib.Omega.{arith}
 use mathlib.Core.Path.{_≡_, refl, sym, ap, _∙_}
 use mathlib.Core.Bool.{_&&_}
-use mathlib.Core.List.{List, _++_}
+use mathlib.Core.List.{List, _++_, append-assoc}
 use mathlib.Core.Logic.{inl, inr}
 use lib.Dec.{ltb, eqb}
-use lib.ListN.{length}
+use lib.ListN.{length, drop, length-append}
+use lib.Seq.{drop-append-le}
 use borrow.Author.Tests.{ltb-false, le-ltb}
 use Rattle.fields.specs.Place.{countedSize}
 use Rattle.fields.specs.Bytes.{u32At}
@@ -19,17 +20,21 @@ use Rattle.fields.proofs.Grow.{Grows, choose, passes}
 use Rattle.clut.specs.Clut.{Seen, is, no}
 use Rattle.clut.specs.Table.{lengthOf}
 use Rattle.curve.specs.declared.Walk.{Walk}
+use Rattle.mft.specs.Answer.{State as Mft·State, answerOf}
+use Rattle.mft.specs.Layout.{isMft}
+use Rattle.mft.specs.Mft.{mftOf}
+use Rattle.mft.proofs.More.{Is as MftIs, more-limit as mft-limit}
 use Rattle.run.specs.Run.{End, whole, stopped, Ran, runAt, recordWords, recordsOf}
 use Rattle.run.proofs.Limit.{Over, run-limit}
 use Rattle.lut.specs.Abm.{tableOf, recordedOf, judgedOf, withTable, abmOf}
-use Rattle.lut.specs.Answer.{Abm, abm, refused, Answer, orRefused}
+use Rattle.lut.specs.Answer.{State, mft, abm, absent, refused, Answer, fromMft, orRefused, leftBy}
 use Rattle.lut.specs.Layout.{inputs, outputs, planOf, recordsNeeded}
 use Rattle.lut.specs.Lut.{tagOf, byType, lutOf}
 use Rattle.lut.specs.Parts.{runA, runM, runB, runsJudged, curvesOf, matrixJudged}
 use Rattle.lut.specs.Verdict.{Judged, good, bad, ended, andThen}
 use Rattle.lut.specs.declared.abm.Plan.{Plan}
-use Rattle.lut.proofs.Accepted.{not-refused, accepted, found}
-use Rattle.lut.proofs.PartLaws.{a-whole, m-whole, b-whole}
+use Rattle.lut.proofs.Accepted.{IsValue, not-refused, abm-found}
+use Rattle.lut.proofs.PartLaws.{a-whole, m-whole, b-whole, all-length}
 
 -- the answers that may change: those of one refusal
 abbrev pub Is : ℕ → Answer → Type 0
@@ -37,9 +42,9 @@ Is n a = a .state ≡ refused n
 
 -- ---- bytes behind the profile: the tag is fixed by its size
 
-pub more-bytes : (walk : Walk) (limit : ℕ) (p q : List ℕ) (entry size words : ℕ) → Grows (Is 1) (lutOf walk limit p entry size words) (lutOf walk limit (p ++ q) entry size words)
+pub more-bytes : (walk : Walk) (limit points : ℕ) (p q : List ℕ) (entry size words : ℕ) → Grows (Is 1) (lutOf walk limit points p entry size words) (lutOf walk limit points (p ++ q) entry size words)
 unfolding lutOf
-more-bytes walk limit p q entry size words =
+more-bytes walk limit points p q entry size words =
     passes (Is 1) (ltb (length p) (entry + countedSize size)) (ltb (length (p ++ q)) (entry + countedSize size)) (longer p q (entry + countedSize size)) refl
     (λ e. choose (Is 1) (ltb (countedSize size) 48) (λ _. inr refl)
     (λ _. rw (part-append p q entry (countedSize size) (ltb-false (length p) (entry + countedSize size) e)) (inr refl)))
@@ -80,8 +85,8 @@ before : (n : ℕ) (j : Judged) (a b : Answer) → Grows (Is n) a b → Grows (I
 before n good a b g = g
 before n (bad m) a b g = inr refl
 
--- what the judged parts of every tag do, tags and profiles do: with another limit, and other slots
-module _ (n : ℕ) (walk : Walk) (low high few many : ℕ) (g : (t : List ℕ) (start bytes size : ℕ) → Grows (Is n) (judgedOf walk low t few start bytes size) (judgedOf walk high t many start bytes size)) where
+-- what the judged parts of every tag do, and `mft1` and `mft2`, tags and profiles do: with other limits, and other slots
+module _ (n : ℕ) (walk : Walk) (low high : ℕ) (points more : ℕ) (few many : ℕ) (g : (t : List ℕ) (start bytes size : ℕ) → Grows (Is n) (judgedOf walk low t few start bytes size) (judgedOf walk high t many start bytes size)) (m : (t : List ℕ) → Grows (Is n) (fromMft (answerOf t (mftOf points t))) (fromMft (answerOf t (mftOf more t)))) where
   table-grows : (t : List ℕ) (x : Seen) → Grows (Is n) (withTable walk low t few x) (withTable walk high t many x)
   table-grows t (is table) = g t (table .start) (lengthOf table) (table .size)
   table-grows t (no m) = inr refl
@@ -92,29 +97,42 @@ module _ (n : ℕ) (walk : Walk) (low high few many : ℕ) (g : (t : List ℕ) (
       choose (Is n) (ltb 4 (inputs t) && ltb 4 (outputs t)) (λ _. inr refl)
       (λ _. before n (matrixJudged t) _ _ (table-grows t (tableOf t)))
 
-  type-grows : (t : List ℕ) → Grows (Is n) (byType walk low t few) (byType walk high t many)
+  type-grows : (t : List ℕ) → Grows (Is n) (byType walk low points t few) (byType walk high more t many)
   unfolding byType
   type-grows t =
-      choose (Is n) (eqb (u32At t 0) (signatureOf Mab)) (λ _. abm-grows t)
-      (λ _. choose (Is n) (eqb (u32At t 0) (signatureOf Mba)) (λ _. abm-grows t) (λ _. inr refl))
+      choose (Is n) (isMft t) (λ _. m t)
+      (λ _. choose (Is n) (eqb (u32At t 0) (signatureOf Mab)) (λ _. abm-grows t)
+      (λ _. choose (Is n) (eqb (u32At t 0) (signatureOf Mba)) (λ _. abm-grows t) (λ _. inr refl)))
 
-  lut-grows : (p : List ℕ) (entry size : ℕ) → Grows (Is n) (lutOf walk low p entry size few) (lutOf walk high p entry size many)
+  lut-grows : (p : List ℕ) (entry size : ℕ) → Grows (Is n) (lutOf walk low points p entry size few) (lutOf walk high more p entry size many)
   unfolding lutOf
   lut-grows p entry size =
       choose (Is n) (ltb (length p) (entry + countedSize size)) (λ _. inr refl)
       (λ _. choose (Is n) (ltb (countedSize size) 48) (λ _. inr refl) (λ _. type-grows (tagOf p entry size)))
 
-module _ (walk : Walk) (low high : ℕ) (h : low ≤ high) where
+module _ (walk : Walk) (low high : ℕ) (h : low ≤ high) (points : ℕ) where
   judged-limit : (words : ℕ) (t : List ℕ) (start bytes size : ℕ) → Grows (Is 10) (judgedOf walk low t words start bytes size) (judgedOf walk high t words start bytes size)
   unfolding judgedOf
   judged-limit words t start bytes size = judged-grows _ _ (recordedOf t words start bytes size) (runs-limit walk low high t (planOf t) h)
 
-  pub more-limit : (p : List ℕ) (entry size words : ℕ) → Grows (Is 10) (lutOf walk low p entry size words) (lutOf walk high p entry size words)
-  more-limit p entry size words = lut-grows 10 walk low high words words (judged-limit words) p entry size
+  pub more-limit : (p : List ℕ) (entry size words : ℕ) → Grows (Is 10) (lutOf walk low points p entry size words) (lutOf walk high points p entry size words)
+  more-limit p entry size words = lut-grows 10 walk low high points points words words (judged-limit words) (λ t. inr refl) p entry size
+
+-- ---- a higher limit of grid points
+
+mft-answered : (t : List ℕ) (x y : Mft·State) → Grows (MftIs 16) x y → Grows (Is 16) (fromMft (answerOf t x)) (fromMft (answerOf t y))
+unfolding answerOf
+mft-answered t x y (inl e) = inl (rw e)
+mft-answered t x y (inr e) = inr (ap (λ (a : Mft·State). fromMft (answerOf t a)) e)
+
+module _ (walk : Walk) (limit : ℕ) (low high : ℕ) (h : low ≤ high) where
+  pub more-points : (p : List ℕ) (entry size words : ℕ) → Grows (Is 16) (lutOf walk limit low p entry size words) (lutOf walk limit high p entry size words)
+  more-points p entry size words =
+      lut-grows 16 walk limit limit low high words words (λ t start bytes size. inr refl) (λ t. mft-answered t (mftOf low t) (mftOf high t) (mft-limit low high h t)) p entry size
 
 -- ---- more slots
 
-module _ (walk : Walk) (limit few many : ℕ) (h : few ≤ many) where
+module _ (walk : Walk) (limit points : ℕ) (few many : ℕ) (h : few ≤ many) where
   recorded-slots : (t : List ℕ) (start bytes size : ℕ) → Grows (Is 14) (recordedOf t few start bytes size) (recordedOf t many start bytes size)
   unfolding recordedOf
   recorded-slots t start bytes size =
@@ -125,8 +143,8 @@ module _ (walk : Walk) (limit few many : ℕ) (h : few ≤ many) where
   unfolding judgedOf
   judged-slots t start bytes size = before 14 (runsJudged walk limit t (planOf t)) _ _ (recorded-slots t start bytes size)
 
-  pub more-slots : (p : List ℕ) (entry size : ℕ) → Grows (Is 14) (lutOf walk limit p entry size few) (lutOf walk limit p entry size many)
-  more-slots = lut-grows 14 walk limit limit few many judged-slots
+  pub more-slots : (p : List ℕ) (entry size : ℕ) → Grows (Is 14) (lutOf walk limit points p entry size few) (lutOf walk limit points p entry size many)
+  more-slots = lut-grows 14 walk limit limit points points few many judged-slots (λ t. inr refl)
 
 -- ---- all at once
 
@@ -142,25 +160,56 @@ unfolding curvesOf
 curves-stay walk low high t p h g =
     rw (run-stays walk low high t h (p .a .0) (p .na) (a-whole walk low t p g), run-stays walk low high t h (p .m .0) (p .nm) (m-whole walk low t p g), run-stays walk low high t h (p .b .0) (p .nb) (b-whole walk low t p g))
 
--- with bytes behind the profile, a higher limit and more slots a value keeps every field and every record
-pub record Stays (walk : Walk) (low high : ℕ) (p q : List ℕ) (entry size few many : ℕ) : Type 0 where
-  pub answer-stays : lutOf walk high (p ++ q) entry size many ≡ lutOf walk low p entry size few
-  pub records-stay : recordsOf (curvesOf walk high (tagOf (p ++ q) entry size) (planOf (tagOf (p ++ q) entry size))) ≡ recordsOf (curvesOf walk low (tagOf p entry size) (planOf (tagOf p entry size)))
-
 -- what may change is not a value, so a value is kept
-kept : (a b : Answer) (n : ℕ) (f : Abm) → a .state ≡ abm f → Grows (Is n) a b → b ≡ a
-kept a b n f h (inl e) = not-refused e f h
-kept a b n f h (inr e) = e
+kept : (a b : Answer) (n : ℕ) → IsValue (a .state) → Grows (Is n) a b → b ≡ a
+kept a b n v (inl e) = not-refused e v
+kept a b n v (inr e) = e
 
-pub value-stays : (walk : Walk) (low high : ℕ) (p q : List ℕ) (entry size few many : ℕ) (f : Abm) → low ≤ high → few ≤ many → lutOf walk low p entry size few .state ≡ abm f → Stays walk low high p q entry size few many
-value-stays walk low high p q entry size few many f l m h =
-    let t : List ℕ = tagOf p entry size in
-    let e₁ : lutOf walk high p entry size few ≡ lutOf walk low p entry size few = kept _ _ 10 f h (more-limit walk low high l p entry size few) in
-    let e₂ : lutOf walk high p entry size many ≡ lutOf walk high p entry size few = kept _ _ 14 f (ap (λ (a : Answer). a .state) e₁ ∙ h) (more-slots walk high few many m p entry size) in
-    let e₃ : lutOf walk high (p ++ q) entry size many ≡ lutOf walk high p entry size many = kept _ _ 1 f (ap (λ (a : Answer). a .state) (e₂ ∙ e₁) ∙ h) (more-bytes walk high p q entry size many) in
-    let w = found walk low p entry size few f h in
-    let v = accepted walk low t few f (ap (λ (a : Answer). a .state) (sym (w .as-tag)) ∙ h) in
-    record {
-      answer-stays = e₃ ∙ e₂ ∙ e₁;
-      records-stay = rw (same-tag p q entry size (w .tag-in-profile)) (ap recordsOf (curves-stay walk low high t (planOf t) l (v .runs-good)));
-    }
+value-kept : {a b : Answer} → b ≡ a → IsValue (a .state) → IsValue (b .state)
+value-kept e v = rw e v
+
+-- what a call leaves in the lent slots
+abbrev leftIn : Walk → ℕ → ℕ → List ℕ → ℕ → ℕ → List ℕ → List ℕ
+leftIn walk limit points p entry size slots =
+    leftBy (lutOf walk limit points p entry size (length slots) .state) (recordsOf (curvesOf walk limit (tagOf p entry size) (planOf (tagOf p entry size)))) slots
+
+-- with bytes q behind the profile, higher limits and the slots x behind those lent, a value keeps every field, and every word is left as
+-- before, those of x as they were
+pub record Stays (walk : Walk) (low high : ℕ) (points more : ℕ) (p q : List ℕ) (entry size : ℕ) (slots x : List ℕ) : Type 0 where
+  pub answer-stays : lutOf walk high more (p ++ q) entry size (length (slots ++ x)) ≡ lutOf walk low points p entry size (length slots)
+  pub slots-stay : leftIn walk high more (p ++ q) entry size (slots ++ x) ≡ leftIn walk low points p entry size slots ++ x
+
+module _ (walk : Walk) (low high : ℕ) (l : low ≤ high) (points more : ℕ) (m : points ≤ more) (p q : List ℕ) (entry size : ℕ) (slots x : List ℕ) where
+  abbrev t : List ℕ
+  t = tagOf p entry size
+
+  abbrev before-all : Answer
+  before-all = lutOf walk low points p entry size (length slots)
+
+  answer-kept : IsValue (before-all .state) → lutOf walk high more (p ++ q) entry size (length (slots ++ x)) ≡ before-all
+  answer-kept v =
+      let room : length slots ≤ length (slots ++ x) = simp length-append (omega arith) in
+      let e₁ = kept _ _ 10 v (more-limit walk low high l points p entry size (length slots)) in
+      let v₁ = value-kept e₁ v in
+      let e₂ = kept _ _ 16 v₁ (more-points walk high points more m p entry size (length slots)) in
+      let v₂ = value-kept e₂ v₁ in
+      let e₃ = kept _ _ 14 v₂ (more-slots walk high more (length slots) (length (slots ++ x)) room p entry size) in
+      let v₃ = value-kept e₃ v₂ in
+      let e₄ = kept _ _ 1 v₃ (more-bytes walk high more p q entry size (length (slots ++ x))) in
+      e₄ ∙ e₃ ∙ e₂ ∙ e₁
+
+  slots-kept : (s : State) → before-all .state ≡ s → IsValue s → leftBy s (recordsOf (curvesOf walk high (tagOf (p ++ q) entry size) (planOf (tagOf (p ++ q) entry size)))) (slots ++ x) ≡ leftBy s (recordsOf (curvesOf walk low t (planOf t))) slots ++ x
+  unfolding IsValue planOf recordsNeeded
+  slots-kept (mft f) h v = refl
+  slots-kept (abm f) h v =
+      let w = abm-found walk low points p entry size (length slots) f h in
+      let good = w .behind .runs-good in
+      let rs : List ℕ = recordsOf (curvesOf walk low t (planOf t)) in
+      let n : length rs ≤ length slots = omega (arith, all-length walk low t (planOf t) good, w .behind .room) in
+      rw (same-tag p q entry size (w .tag-in-profile), curves-stay walk low high t (planOf t) l good, drop-append-le (length rs) slots x n)
+      (sym (append-assoc rs (drop (length rs) slots) x))
+  slots-kept absent h v = absurd v
+  slots-kept (refused n) h v = absurd v
+
+  pub value-stays : IsValue (before-all .state) → Stays walk low high points more p q entry size slots x
+  value-stays v = record { answer-stays = answer-kept v; slots-stay = rw (answer-kept v) (slots-kept (before-all .state) refl v) }

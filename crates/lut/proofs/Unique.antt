@@ -5,11 +5,12 @@ use mathlib.Core.Path.{_≡_, refl, sym, ap, _∙_}
 use mathlib.Core.List.{List}
 use Rattle.fields.proofs.Numbers.{nameOf, named}
 use Rattle.curve.specs.declared.Walk.{Walk}
-use Rattle.lut.specs.Answer.{Abm, State, abm, absent, refused, Answer, stateFrom, paper}
+use Rattle.mft.proofs.Unique.{tableFrom}
+use Rattle.lut.specs.Answer.{Abm, State, mft, abm, absent, refused, Answer, stateFrom, paper}
 use Rattle.lut.specs.Lut.{Said}
-use Rattle.lut.specs.declared.abm.AbmTable.{AbmTable}
-use Rattle.lut.specs.declared.abm.Lut.{Lut}
-use Rattle.lut.specs.declared.abm.LutAnswer.{LutAnswer}
+use Rattle.lut.specs.declared.answer.AbmTable.{AbmTable}
+use Rattle.lut.specs.declared.answer.Lut.{Lut}
+use Rattle.lut.specs.declared.answer.LutAnswer.{LutAnswer}
 
 -- the result that stands for an answer
 abbrev tableTo : Abm → AbmTable
@@ -27,11 +28,13 @@ tableTo f =
     }
 
 abbrev answerTo : State → LutAnswer
+answerTo (mft f) = LutAnswer.Mft (tableFrom f)
 answerTo (abm f) = LutAnswer.Abm (tableTo f)
 answerTo absent = LutAnswer.Absent
 answerTo (refused n) = LutAnswer.Refused (nameOf n)
 
 back : (a : LutAnswer) → answerTo (stateFrom a) ≡ a
+back (LutAnswer.Mft t) = refl
 back (LutAnswer.Abm t) = refl
 back LutAnswer.Absent = refl
 back (LutAnswer.Refused why) = ap LutAnswer.Refused (named why)

@@ -4,10 +4,11 @@ use mathlib.Core.Bool.{Bool}
 use mathlib.Core.List.{List, _++_}
 use lib.ListN.{length, drop, replicate}
 use Rattle.fields.specs.Refusals.{numberOf}
+use Rattle.mft.specs.Answer.{Fields, State as Mft·State, Answer as Mft·Answer, fieldsFrom}
 use Rattle.lut.specs.Verdict.{Judged, good, bad}
-use Rattle.lut.specs.declared.abm.AbmTable.{AbmTable}
-use Rattle.lut.specs.declared.abm.LutAnswer.{LutAnswer}
-use Rattle.lut.specs.declared.abm.Lut.{Lut}
+use Rattle.lut.specs.declared.answer.AbmTable.{AbmTable}
+use Rattle.lut.specs.declared.answer.LutAnswer.{LutAnswer}
+use Rattle.lut.specs.declared.answer.Lut.{Lut}
 
 -- the numbers of an `mAB ` or `mBA ` tag: direction, channels, where the colour table's data lie, the bytes of an entry, and the curves
 -- of each run
@@ -23,6 +24,7 @@ pub record Abm : Type 0 where
   pub b : ℕ
 
 pub data State : Type 0 where
+  mft : Fields → State
   abm : Abm → State
   absent : State
   refused : ℕ → State
@@ -60,6 +62,7 @@ tableFrom t =
     }
 
 abbrev pub stateFrom : LutAnswer → State
+stateFrom (LutAnswer.Mft t) = mft (fieldsFrom t)
 stateFrom (LutAnswer.Abm t) = abm (tableFrom t)
 stateFrom LutAnswer.Absent = absent
 stateFrom (LutAnswer.Refused why) = refused (numberOf why)
@@ -67,13 +70,22 @@ stateFrom (LutAnswer.Refused why) = refused (numberOf why)
 abbrev pub paper : Lut → Answer
 paper l = record { state = stateFrom (l .answer); grid = l .grid; matrix = l .matrix; bias = l .bias }
 
+-- what is answered of `mft1` and `mft2`: no sixteen grid bytes, and no bias
+abbrev pub mftState : Mft·State → State
+mftState (Mft·State.value f) = mft f
+mftState (Mft·State.refused n) = refused n
+
+abbrev pub fromMft : Mft·Answer → Answer
+fromMft a = record { state = mftState (a .state); grid = replicate 16 0; matrix = a .matrix; bias = replicate 3 0 }
+
 -- a part that is refused refuses the tag
 abbrev pub orRefused : Judged → Answer → Answer
 orRefused good a = a
 orRefused (bad n) a = refuse n
 
--- what is left in lent slots: the records of a value in front, and everything else as it was
+-- what is left in lent slots: the records of `mAB ` or `mBA ` in front, and everything else as it was
 abbrev pub leftBy : State → List ℕ → List ℕ → List ℕ
+leftBy (mft f) records slots = slots
 leftBy (abm t) records slots = records ++ drop (length records) slots
 leftBy absent records slots = slots
 leftBy (refused n) records slots = slots

@@ -1,10 +1,10 @@
--- The worked cases of `mAB `: calls of the reader at offset 0 under the house default, and what they answer and leave.
+-- The worked cases of `mAB `: calls of the reader at offset 0 under the house defaults, and what they answer and leave.
 use Prim.Native.Nat.{ℕ, _*_}
 use mathlib.Core.Path.{_≡_}
 use mathlib.Core.Bool.{true}
 use mathlib.Core.List.{List, [], _∷_, _++_}
 use lib.ListN.{length, replicate}
-use Rattle.fields.specs.House.{houseEntries}
+use Rattle.fields.specs.House.{houseEntries, housePoints}
 use Rattle.curve.specs.declared.Walk.{Walk}
 use Rattle.curve.specs.declared.Walk.the-variants.{Crate, Book}
 use Rattle.run.specs.Run.{recordWords, recordsOf}
@@ -19,7 +19,7 @@ pub data Case : Type 0 where
 
 unfoldable pub Holds : Case → Type 0
 Holds (gives walk profile size slots s left) =
-    (lutOf walk houseEntries profile 0 size (length slots) .state ≡ s)
+    (lutOf walk houseEntries housePoints profile 0 size (length slots) .state ≡ s)
     × (leftBy s (recordsOf (curvesOf walk houseEntries (tagOf profile 0 size) (planOf (tagOf profile 0 size)))) slots ≡ left)
 
 unfoldable pub All : List Case → Type 0

@@ -10,29 +10,33 @@ use Rattle.fields.specs.Place.{tagAt, countedSize}
 use Rattle.fields.specs.Tag.{signatureOf}
 use Rattle.fields.specs.declared.Kind.the-variants.{Mab, Mba}
 use Rattle.curve.specs.declared.Walk.{Walk}
+use Rattle.mft.specs.Answer.{answerOf}
+use Rattle.mft.specs.Layout.{isMft}
+use Rattle.mft.specs.Mft.{mftOf}
 use Rattle.run.specs.Run.{recordsOf}
 use Rattle.lut.specs.Abm.{abmOf}
-use Rattle.lut.specs.Answer.{Answer, refuse, paper, leftBy}
+use Rattle.lut.specs.Answer.{Answer, refuse, fromMft, paper, leftBy}
 use Rattle.lut.specs.Layout.{planOf}
 use Rattle.lut.specs.Parts.{curvesOf}
-use Rattle.lut.specs.declared.abm.Lut.{Lut}
+use Rattle.lut.specs.declared.answer.Lut.{Lut}
 
 abbrev pub tagOf : List ℕ → ℕ → ℕ → List ℕ
 tagOf profile entry size = tagAt profile entry (countedSize size)
 
 -- by the type of the tag t
-unfoldable pub byType : Walk → ℕ → List ℕ → ℕ → Answer
-byType walk limit t words =
+unfoldable pub byType : Walk → ℕ → ℕ → List ℕ → ℕ → Answer
+byType walk limit points t words =
+    cond (isMft t) (fromMft (answerOf t (mftOf points t))) (
     cond (eqb (u32At t 0) (signatureOf Mab)) (abmOf walk limit t words) (
     cond (eqb (u32At t 0) (signatureOf Mba)) (abmOf walk limit t words) (
-    refuse 3))
+    refuse 3)))
 
--- the tag of a profile, with so many words lent
-unfoldable pub lutOf : Walk → ℕ → List ℕ → ℕ → ℕ → ℕ → Answer
-lutOf walk limit profile entry size words =
+-- the tag of a profile, under the limits of curve entries and of grid points, with so many words lent
+unfoldable pub lutOf : Walk → ℕ → ℕ → List ℕ → ℕ → ℕ → ℕ → Answer
+lutOf walk limit points profile entry size words =
     cond (ltb (length profile) (entry + countedSize size)) (refuse 1) (
     cond (ltb (countedSize size) 48) (refuse 2) (
-    byType walk limit (tagOf profile entry size) words))
+    byType walk limit points (tagOf profile entry size) words))
 
 -- what a call answers, and what it leaves of the lent slots
 pub record Said (walk : Walk) (limit : ℕ) (t : List ℕ) (answer : Answer) (r : Lut) (before after : List ℕ) : Type 0 where

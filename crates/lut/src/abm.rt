@@ -1,4 +1,8 @@
 // `mAB ` and `mBA `: read_lut_abm_type of moxcms.
+use crate::answer;
+use crate::answer::AbmTable;
+use crate::answer::Lut;
+use crate::answer::LutAnswer;
 use crate::nested;
 use crate::nested::RECORD_WORDS;
 use crate::nested::Verdict;
@@ -16,65 +20,13 @@ ghost use lib.Dec.{ltb};
 ghost use lib.ListN.{length, drop};
 ghost use Rattle.clut.specs.Answer.{paper as Clut·paper, toldOf};
 ghost use Rattle.fields.specs.Bytes.{bytesAt};
-ghost use Rattle.fields.specs.Refusals.{numberOf};
 ghost use Rattle.run.specs.Run.{recordWords, recordsOf};
 ghost use Rattle.lut.specs.Abm.{tableOf, valueFrom, recordedOf, judgedOf, withTable, abmOf};
 ghost use Rattle.lut.specs.Lut.{Said};
 ghost use Rattle.lut.specs.Parts.{runsJudged, curvesOf, matrixJudged};
-ghost use Rattle.lut.specs.Answer.{none, refuse, paper};
+ghost use Rattle.lut.specs.Answer.{paper};
 ghost use Rattle.lut.specs.Layout.{toPcs, inputs, outputs, deviceChannels, spaceChannels, Few, present, aCurves, mCurves, bCurves, Planned, gridOf, matrixOf, biasOf};
 ghost use Rattle.lut.specs.Verdict.{good, judgedFrom};
-
-// What an `mAB ` or `mBA ` tag says: its direction and channels, where the data of its colour table lie and the bytes of an entry (zeros
-// without one), and how many curves each run has. The records of the curves stand in the lent slots.
-pub struct AbmTable {
-    pub to_pcs: bool,
-    pub inputs: u8,
-    pub outputs: u8,
-    pub clut_start: InTag,
-    pub clut_length: u32,
-    pub entry_size: u8,
-    pub a_curves: u32,
-    pub m_curves: u32,
-    pub b_curves: u32,
-}
-
-pub enum LutAnswer {
-    Abm(AbmTable),
-    Absent,
-    Refused(Refusal),
-}
-
-// The answer, and beside it what is an array: the grid bytes as they stand, and the matrix and bias numbers, signed words in two's
-// complement. All of them are zeros unless the answer is a value.
-pub struct Lut {
-    pub answer: LutAnswer,
-    pub grid: [u8; 16],
-    pub matrix: [u32; 9],
-    pub bias: [u32; 3],
-}
-
-pub(crate) fn absent() -> Lut
-    ensures { λ r. ⌜ paper r ≡ none ⌝ }
-{
-    Lut {
-        answer: LutAnswer::Absent,
-        grid: [0; 16],
-        matrix: [0; 9],
-        bias: [0; 3],
-    }
-}
-
-pub(crate) fn refused(why: Refusal) -> Lut
-    ensures { λ r. ⌜ paper r ≡ refuse (numberOf why) ⌝ }
-{
-    Lut {
-        answer: LutAnswer::Refused(why),
-        grid: [0; 16],
-        matrix: [0; 9],
-        bias: [0; 3],
-    }
-}
 
 // Whether the tag leads towards the connection space.
 fn to_pcs(tag: &[u8]) -> bool
@@ -327,7 +279,7 @@ fn write_records(
 {
     let needed = p.na + p.nm + p.nb;
     if slots.len() / RECORD_WORDS < needed as usize {
-        return refused(Refusal::TooFewSlots);
+        return answer::refused(Refusal::TooFewSlots);
     }
     write_runs(tag, p, limit, walk, slots);
     value(tag, p, table)
@@ -342,7 +294,7 @@ fn read_runs(tag: &[u8], table: ColourTable, limit: u64, walk: Walk, slots: &mut
     let judged = check_runs(tag, p, limit, walk);
     match judged {
         Verdict::Good => write_records(tag, p, table, limit, walk, slots),
-        Verdict::Refused(why) => refused(why),
+        Verdict::Refused(why) => answer::refused(why),
     }
 }
 
@@ -354,7 +306,7 @@ fn read_parts(tag: &[u8], limit: u64, walk: Walk, slots: &mut [u32]) -> Lut
     let found = find_table(tag);
     match found {
         ClutAnswer::Value(table) => read_runs(tag, table, limit, walk, slots),
-        ClutAnswer::Refused(why) => refused(why),
+        ClutAnswer::Refused(why) => answer::refused(why),
     }
 }
 
@@ -364,11 +316,11 @@ pub(crate) fn read_lut_abm_type(tag: &[u8], limit: u64, walk: Walk, slots: &mut 
     ensures { λ r. ⌜ Said walk limit (now (tag .entry)) (abmOf walk limit (now (tag .entry)) (length (now (slots .entry)))) r (now (slots .entry)) (now (slots .exit)) ⌝ }
 {
     if too_many_channels(tag) {
-        return absent();
+        return answer::absent();
     }
     let judged = check_matrix(tag);
     match judged {
         Verdict::Good => read_parts(tag, limit, walk, slots),
-        Verdict::Refused(why) => refused(why),
+        Verdict::Refused(why) => answer::refused(why),
     }
 }

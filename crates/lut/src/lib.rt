@@ -1,10 +1,11 @@
-// Lookup tables: read_lut_tag of moxcms, for `mAB ` and `mBA `.
+// Lookup tables: read_lut_tag of moxcms.
 mod abm;
+mod answer;
 mod nested;
 
-pub use abm::AbmTable;
-pub use abm::Lut;
-pub use abm::LutAnswer;
+pub use answer::AbmTable;
+pub use answer::Lut;
+pub use answer::LutAnswer;
 use curve::Walk;
 use fields::Entry;
 use fields::InTag;
@@ -18,36 +19,40 @@ ghost use Prim.Native.Nat.{_^_, _<_};
 ghost use Rattle.lut.specs.Lut.{Said, tagOf, byType, lutOf};
 
 // By the type of the tag.
-fn read_kind(tag: &[u8], limit: u64, walk: Walk, slots: &mut [u32]) -> Lut
+fn read_kind(tag: &[u8], limit: u64, points: u64, walk: Walk, slots: &mut [u32]) -> Lut
     requires { ⌜ length (now tag) < 2 ^ 32 ⌝ }
-    ensures { λ r. ⌜ Said walk limit (now (tag .entry)) (byType walk limit (now (tag .entry)) (length (now (slots .entry)))) r (now (slots .entry)) (now (slots .exit)) ⌝ }
+    ensures { λ r. ⌜ Said walk limit (now (tag .entry)) (byType walk limit points (now (tag .entry)) (length (now (slots .entry)))) r (now (slots .entry)) (now (slots .exit)) ⌝ }
 {
     match fields::kind_at(tag, InTag(0)) {
+        Kind::Mft1 => answer::from_mft(mft::read_lut_a_to_b_type(tag, points)),
+        Kind::Mft2 => answer::from_mft(mft::read_lut_a_to_b_type(tag, points)),
         Kind::Mab => abm::read_lut_abm_type(tag, limit, walk, slots),
         Kind::Mba => abm::read_lut_abm_type(tag, limit, walk, slots),
-        _ => abm::refused(Refusal::OtherLut),
+        _ => answer::refused(Refusal::OtherLut),
     }
 }
 
-// The lookup table whose tag stands at `entry`, of `size` bytes; a size of 0 counts as 12. A curve may have `limit` entries. The
-// records of the curves go into `slots`, RECORD_WORDS words each, runs A, M and B one behind the other.
+// The lookup table whose tag stands at `entry`, of `size` bytes; a size of 0 counts as 12. A curve may have `limit` entries, and the grid
+// of `mft1` and `mft2` so many `points`. The records of the curves of `mAB ` and `mBA ` go into `slots`, RECORD_WORDS words each, runs A, M
+// and B one behind the other. Of these types alone does the walk make a difference.
 pub fn read_lut_tag(
     profile: &[u8],
     entry: Entry,
     size: u32,
     limit: u64,
+    points: u64,
     walk: Walk,
     slots: &mut [u32],
 ) -> Lut
-    ensures { λ r. ⌜ Said walk limit (tagOf (now (profile .entry)) (entry .0) size) (lutOf walk limit (now (profile .entry)) (entry .0) size (length (now (slots .entry)))) r (now (slots .entry)) (now (slots .exit)) ⌝ }
+    ensures { λ r. ⌜ Said walk limit (tagOf (now (profile .entry)) (entry .0) size) (lutOf walk limit points (now (profile .entry)) (entry .0) size (length (now (slots .entry)))) r (now (slots .entry)) (now (slots .exit)) ⌝ }
 {
     let end = fields::counted_size(size);
     let place = fields::locate(profile, entry, InTag(end as u64));
     let Place::In { from, to } = place else {
-        return abm::refused(Refusal::PastProfile);
+        return answer::refused(Refusal::PastProfile);
     };
     if end < 48 {
-        return abm::refused(Refusal::TagTooShort);
+        return answer::refused(Refusal::TagTooShort);
     }
-    read_kind(&profile[from..to], limit, walk, slots)
+    read_kind(&profile[from..to], limit, points, walk, slots)
 }

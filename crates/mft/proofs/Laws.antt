@@ -26,7 +26,7 @@ use Rattle.fields.proofs.Choice.{neither-left, neither-right}
 use Rattle.fields.proofs.Kind as kinds
 use Rattle.fields.proofs.Signatures.{arm, unlike, others}
 use Rattle.mft.specs.Answer.{State, value, refused, stateFrom, fieldsOf, answerOf}
-use Rattle.mft.specs.Layout.{isWide, inputs, outputs, gridPoints, inputEntries, outputEntries, entrySize, tablesStart, entriesAt, inputLength, colourTable, Sized}
+use Rattle.mft.specs.Layout.{isWide, isMft, inputs, outputs, gridPoints, inputEntries, outputEntries, entrySize, tablesStart, entriesAt, inputLength, colourTable, Sized}
 use Rattle.mft.specs.Mft.{outside, badEntries, badChannels, badNumbers, tablesOf, numbersOf, mftOf}
 use Rattle.mft.specs.declared.MftAnswer.{MftAnswer}
 use Rattle.mft.specs.declared.MftTable.{MftTable}
@@ -228,7 +228,7 @@ module _ (limit : ℕ) (t : List ℕ) where
 
   module _ (l : 48 ≤ length t) (k : Kind) (h : k ≡ kindOf (u32At t 0)) where
     pub type-mft1 : k ≡ Mft1 → (r : State) → r ≡ numbersOf limit t → r ≡ mftOf limit t
-    unfolding mftOf isWide tablesStart
+    unfolding mftOf isMft isWide tablesStart
     type-mft1 e r g =
         let i : u32At t 0 ≡ signatureOf Mft1 = arm _ Mft1 (λ o. let z : _≡_ {A = ℕ} 0 1 = cc in omega arith) h e in
         let n : u32At t 0 ≡ signatureOf Mft2 → ⊥ = λ m. other-type (sym i ∙ m) in
@@ -240,15 +240,15 @@ module _ (limit : ℕ) (t : List ℕ) where
       wide = eq-eqb _ _ (arm _ Mft2 (λ o. let z : _≡_ {A = ℕ} 0 1 = cc in omega arith) h e)
 
       pub type-mft2-short : length t < 52 → refused 2 ≡ mftOf limit t
-      unfolding mftOf tablesStart
+      unfolding mftOf isMft tablesStart
       type-mft2-short m = rw (le-ltb _ _ l, wide, or-true, lt-ltb _ _ m)
 
       pub type-mft2 : 52 ≤ length t → (r : State) → r ≡ numbersOf limit t → r ≡ mftOf limit t
-      unfolding mftOf tablesStart
+      unfolding mftOf isMft tablesStart
       type-mft2 m r g = rw (le-ltb _ _ l, wide, or-true, le-ltb _ _ m) g
 
     pub type-other : OneOf (others (Mft1 ∷ Mft2 ∷ [])) (placeIn kinds.the-type k) → refused 3 ≡ mftOf limit t
-    unfolding mftOf isWide
+    unfolding mftOf isMft isWide
     type-other o =
         let rest = others (Mft1 ∷ Mft2 ∷ []) in
         rw (le-ltb _ _ l, ne-eqb _ _ (unlike _ Mft1 rest refl h o), ne-eqb _ _ (unlike _ Mft2 rest refl h o))

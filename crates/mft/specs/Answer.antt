@@ -2,7 +2,7 @@
 use Prim.Native.Nat.{ℕ}
 use mathlib.Core.List.{List}
 use lib.ListN.{replicate}
-use Rattle.clut.specs.Table.{lengthOf}
+use Rattle.clut.specs.Table.{Table, lengthOf}
 use Rattle.fields.specs.Refusals.{numberOf}
 use Rattle.mft.specs.Layout.{entrySize, inputs, outputs, gridPoints, matrixOf, inputEntries, outputEntries, tablesStart, inputLength, colourTable, outputStart, outputLength}
 use Rattle.mft.specs.declared.Mft.{Mft}
@@ -75,6 +75,10 @@ fieldsOf t =
       outputStart = outputStart t;
       outputBytes = outputLength t;
     }
+
+-- the colour table that an answer tells of
+abbrev pub toldTable : Fields → Table
+toldTable f = record { grid = replicate (f .inputs) (f .grid); outputs = f .outputs; start = f .clutStart; size = f .size }
 
 -- the matrix of a value, and zeros beside a refusal
 unfoldable pub answerOf : List ℕ → State → Answer

@@ -17,18 +17,21 @@
 -- 256 entries for each channel.
 use Prim.Native.Nat.{ℕ, _+_, _*_, _^_, _<_}
 use mathlib.Core.Path.{_≡_}
-use mathlib.Core.Bool.{Bool, cond}
+use mathlib.Core.Bool.{Bool, cond, _||_}
 use mathlib.Core.List.{List}
 use lib.Dec.{eqb}
 use lib.ListN.{getD, replicate}
 use Rattle.clut.specs.Table.{Table, lengthOf}
 use Rattle.fields.specs.Bytes.{u16At, u32At, wordsAt}
 use Rattle.fields.specs.Tag.{signatureOf}
-use Rattle.fields.specs.declared.Kind.the-variants.{Mft2}
+use Rattle.fields.specs.declared.Kind.the-variants.{Mft1, Mft2}
 
--- whether it is lut16Type
+-- whether it is lut16Type, and whether it is either
 unfoldable pub isWide : List ℕ → Bool
 isWide t = eqb (u32At t 0) (signatureOf Mft2)
+
+unfoldable pub isMft : List ℕ → Bool
+isMft t = eqb (u32At t 0) (signatureOf Mft1) || isWide t
 
 abbrev pub inputs : List ℕ → ℕ
 inputs t = getD t 8 0

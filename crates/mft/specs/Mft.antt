@@ -5,11 +5,8 @@ use mathlib.Core.List.{List}
 use lib.Dec.{ltb, eqb}
 use lib.ListN.{length}
 use Rattle.clut.specs.Table.{pointsOf}
-use Rattle.fields.specs.Bytes.{u32At}
-use Rattle.fields.specs.Tag.{signatureOf}
-use Rattle.fields.specs.declared.Kind.the-variants.{Mft1}
 use Rattle.mft.specs.Answer.{State, value, refused, fieldsOf}
-use Rattle.mft.specs.Layout.{isWide, inputs, outputs, gridPoints, inputEntries, outputEntries, tablesStart, colourTable, tablesEnd}
+use Rattle.mft.specs.Layout.{isMft, inputs, outputs, gridPoints, inputEntries, outputEntries, tablesStart, colourTable, tablesEnd}
 
 unfoldable pub outside : ℕ → ℕ → ℕ → Bool
 outside low x high = ltb x low || ltb high x
@@ -41,6 +38,6 @@ numbersOf limit t =
 unfoldable pub mftOf : ℕ → List ℕ → State
 mftOf limit t =
     cond (ltb (length t) 48) (refused 2) (
-    cond (not (eqb (u32At t 0) (signatureOf Mft1) || isWide t)) (refused 3) (
+    cond (not (isMft t)) (refused 3) (
     cond (ltb (length t) (tablesStart t)) (refused 2) (
     numbersOf limit t)))

@@ -1,0 +1,40 @@
+-- Demand 1 of `mft1` and `mft2`: in an accepted answer the matrix and the three tables lie inside the tag, and each valid grid index reads
+-- inside the colour table. The points fit 32 bits, and the colour table's bytes need 35.
+-- Assumes nothing.
+use Prim.Native.Nat.{ℕ, _+_, _*_, _^_, _≤_, _<_}
+use native.Mathlib.Omega.{arith}
+use native.Mathlib.Nat.{mul-le-mul}
+use mathlib.Core.Path.{_≡_, refl, ap}
+use mathlib.Core.Bool.{Bool, true, false, cond}
+use mathlib.Core.List.{List}
+use lib.ListN.{length, getD, replicate}
+use Rattle.clut.specs.Table.{pointsOf, lengthOf, inGrid, numberOf}
+use Rattle.clut.proofs.Grid.{entry-below, power-is}
+use Rattle.mft.specs.Answer.{Fields, value, fieldsOf, toldTable}
+use Rattle.mft.specs.Layout.{isWide, inputs, outputs, gridPoints, entrySize, colourTable, tablesStart, tablesEnd}
+use Rattle.mft.specs.Mft.{mftOf}
+use Rattle.mft.proofs.Conforms.{accepted, start-least}
+
+pub record Inside (t : List ℕ) (f : Fields) : Type 0 where
+  pub matrix-in-tag : 12 + 4 * 9 ≤ length t
+  pub input-in-tag : f .inputStart + f .inputBytes ≤ length t
+  pub clut-in-tag : f .clutStart + f .clutBytes ≤ length t
+  pub output-in-tag : f .outputStart + f .outputBytes ≤ length t
+  pub bytes-are : lengthOf (toldTable f) ≡ f .clutBytes
+  pub entry-in-table : (index : List ℕ) (channel : ℕ) → inGrid (toldTable f .grid) index ≡ true → channel < f .outputs → numberOf (toldTable f) index channel * f .size + f .size ≤ f .clutBytes
+
+pub inside : (limit : ℕ) (t : List ℕ) (f : Fields) → mftOf limit t ≡ value f → Inside t f
+unfolding fieldsOf colourTable
+inside limit t f h =
+    let a = accepted limit t f h in
+    let e = a .fields-are in
+    let whole = a .laid .whole in
+    let bytes : lengthOf (toldTable f) ≡ f .clutBytes = rw e refl in
+    record {
+      matrix-in-tag = omega (arith, start-least t, whole);
+      input-in-tag = rw e (omega (arith, whole));
+      clut-in-tag = rw e (omega (arith, whole));
+      output-in-tag = rw e whole;
+      bytes-are = bytes;
+      entry-in-table = λ index channel valid low. omega (arith, entry-below (toldTable f) index channel valid low, bytes);
+    }
