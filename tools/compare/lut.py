@@ -1,6 +1,6 @@
-"""Lookup tables: reader 1, and reader 11 on the book walk. So far `mAB ` and `mBA `.
+"""Lookup tables: reader 1, and reader 11 on the book walk. `mft1` and `mft2` stand in compare/mft.py.
 
-Our line is `value mAB` or `value mBA`, 36 numbers, ` |`, and the words lent, which hold the curves' records. The oracle
+Of `mAB ` and `mBA ` our line is `value mAB` or `value mBA`, 36 numbers, ` |`, and the words lent, which hold the curves' records. The oracle
 prints the colour table and the curves entry by entry, matrix and parameters as floats. So a line is checked twice: the
 whole of it against compare/model.py, and what it says, with the job's bytes, against the oracle. The book walk and
 refusal 14 are ours alone. There the oracle is held against the model's answer on the crate walk with slots enough;
@@ -13,13 +13,13 @@ from collections.abc import Iterator
 from dataclasses import replace
 from random import Random
 
-from compare import curve, model
+from compare import curve, mft, model
 from compare.curve import LAST_U32, curv, para, ramp
 from compare.jobs import HOUSE_CURVE_LIMIT, HOUSE_GRID_LIMIT, MOST_WORDS, NO_LIMIT, Job
 
 CRATE_WALK, BOOK_WALK = 1, 11
 READERS = (CRATE_WALK, BOOK_WALK)
-KINDS = ("value mAB", "value mBA", "absent", *(f"refused {number}" for number in range(1, 15)))
+KINDS = ("value mft1", "value mft2", "value mAB", "value mBA", "absent", *(f"refused {number}" for number in range(1, 17)))
 
 MAB, MBA = b"mAB ", b"mBA "
 PARTS = ("b", "matrix", "m", "clut", "a")  # in the order of their offsets in the head
@@ -41,6 +41,8 @@ ERRORS = curve.ERRORS | {
     "refused 6": "error IncorrectlyFormedLut | Clut size exceeded 10_000_000 points what is too big",
     "refused 7": "error IncorrectlyFormedLut | One of grid dimensions is less than 2",
     "refused 8": "error InvalidProfile",
+    "refused 15": "error InvalidProfile",
+    "refused 16": "error InvalidProfile",
 }
 
 
@@ -71,7 +73,11 @@ def expected(job: Job, line: str) -> str:
         return _exhausted(job)
     if text.startswith("value"):
         tag = job.profile[job.offset : job.offset + job.size]
-        return _value(tag, [int(number) for number in text.split(" ")[2:]], words)
+        _, name, *numbers = text.split(" ")
+        numbers = [int(number) for number in numbers]
+        if name in ("mft1", "mft2"):
+            return mft.value(tag, name, numbers, _doubles)
+        return _value(tag, numbers, words)
     return ERRORS.get(text, text)
 
 
@@ -188,10 +194,15 @@ SHORT_DATA, LONG_DATA = 1_000, 70_000
 
 
 def generate(rng: Random) -> Job:
-    tag = _tag(rng)
-    exact = len(tag)
+    if rng.random() < 0.4:
+        tag, exact, grid_limit = mft.random_tag(rng)
+        words = rng.choices((0, WORDS, 3, rng.randrange(40)), (70, 10, 10, 10))[0]
+    else:
+        tag = _tag(rng)
+        exact, grid_limit = len(tag), rng.choice((0, 1, HOUSE_GRID_LIMIT, NO_LIMIT))
+        words = _words(rng, WORDS * records(tag))
     if rng.random() < 0.06:
-        at = rng.choice((rng.randrange(HEAD), rng.randrange(exact)))
+        at = rng.choice((rng.randrange(HEAD), rng.randrange(len(tag))))
         tag = tag[:at] + rng.randbytes(1) + tag[at + 1 :]
     front = rng.randbytes(rng.choice(curve.FRONT_LENGTHS))
     profile = front + tag + rng.randbytes(rng.choice(curve.BEHIND_LENGTHS))
@@ -204,8 +215,8 @@ def generate(rng: Random) -> Job:
         size=_size(rng, exact, offset, len(profile)),
         profile=profile,
         curve_limit=HOUSE_CURVE_LIMIT if rng.random() < 0.5 else curve.random_limit(rng, rng.choice(SMALL_COUNTS)),
-        grid_limit=rng.choice((0, 1, HOUSE_GRID_LIMIT, NO_LIMIT)),
-        words=_words(rng, WORDS * records(tag)),
+        grid_limit=grid_limit,
+        words=words,
     )
 
 
@@ -366,6 +377,8 @@ def exhaustive() -> Iterator[Job]:
                 for byte in range(256):
                     tag = base[:at] + bytes((byte,)) + base[at + 1 :]
                     yield Job(reader, 0, len(tag), tag, words=WORDS * 6)
+        for tag, size, limit in mft.exhaustive():
+            yield Job(reader, 0, size, tag, grid_limit=limit, words=2)
         for tag in _largest():
             for size in (len(tag), len(tag) - 1):
                 for words in (WORDS * MOST_RECORDS - 1, WORDS * MOST_RECORDS, MOST_WORDS):
@@ -387,6 +400,9 @@ def _largest() -> Iterator[bytes]:
 
 
 def from_tag(profile: bytes, offset: int, size: int) -> list[Job]:
+    if profile[offset : offset + 4] in mft.TYPES:
+        limits = (0, HOUSE_GRID_LIMIT, NO_LIMIT)
+        return [Job(reader, offset, size, profile, grid_limit=limit, words=3) for reader in READERS for limit in limits]
     if profile[offset : offset + 4] not in (MAB, MBA):
         return []
     return [
@@ -402,7 +418,13 @@ def from_tag(profile: bytes, offset: int, size: int) -> list[Job]:
 
 def stored() -> list[tuple[str, Job]]:
     walks = {CRATE_WALK: "crate walk", BOOK_WALK: "book walk"}
-    groups = {"tag": _tag_cases, "matrix": _matrix_cases, "colour table": _colour_table_cases, "run": _run_cases}
+    groups = {
+        "tag": _tag_cases,
+        "matrix": _matrix_cases,
+        "colour table": _colour_table_cases,
+        "run": _run_cases,
+        "mft": _mft_cases,
+    }
     return [
         (f"{group}: {comment}, {walk}", replace(job, reader=reader))
         for group, cases in groups.items()
@@ -582,3 +604,12 @@ def _run_cases() -> Iterator[tuple[str, Job]]:
     yield "M refused before B", _job(tag_of(1, 1, b=zero_division, m=para(5), a=gamma))
     yield "B refused, no words", _job(tag_of(1, 1, m=gamma, b=other), words=0)
     yield "B past the tag, one slot", _job(element(1, 1, gamma, m=32, b=40), words=10)
+
+
+def _mft_cases() -> Iterator[tuple[str, Job]]:
+    for comment, tag, size, limit in mft.cases():
+        yield comment, Job(CRATE_WALK, 0, size, tag, grid_limit=limit)
+    tag = mft.element(3, 3, 2)
+    yield "mft2 at an odd offset, 12 words", Job(CRATE_WALK, 5, len(tag), bytes(5) + tag + bytes(2), words=12)
+    yield "mft2 refused, 12 words", Job(CRATE_WALK, 0, len(tag) - 1, tag, words=12)
+    yield "mft2 past the profile", Job(CRATE_WALK, 0, len(tag) + 1, tag)

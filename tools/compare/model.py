@@ -1,4 +1,4 @@
-"""What `answers` must print, by docs/SCOPE.md: the tone curve, the curve run, `mAB ` and `mBA `, on both walks.
+"""What `answers` must print, by docs/SCOPE.md: the tone curve, the curve run and lookup tables, on both walks.
 
 Each function has the checks of that page in the page's order. It settles what moxcms does not show: the book walk,
 refusal 14, the numbers of refusals that share an error, where a record starts, and every word lent.
@@ -118,11 +118,31 @@ def lookup_table(job: Job) -> Answer:
         tag = job.profile[job.offset : end]
         refuse(2, when=len(tag) < 48)
         if tag[:4] in (b"mft1", b"mft2"):
-            raise NoValue("nothing yet of mft1 and mft2")
+            return _mft(tag, job.grid_limit)
         refuse(3, when=tag[:4] not in (b"mAB ", b"mBA "))
         return _mab(tag, job.curve_limit, EMPTY_CURVE_STEP[job.reader])
     except NoValue as no_value:
         return Answer(no_value.text, refused_at=no_value.refused_at)
+
+
+def _mft(tag: bytes, limit: int) -> Answer:
+    """`mft1` and `mft2`."""
+    two = tag[:4] == b"mft2"
+    refuse(2, when=two and len(tag) < 52)
+    entries = struct.unpack_from(">2H", tag, 48) if two else (256, 256)
+    refuse(15, when=not all(2 <= count <= 4096 for count in entries))
+    inputs, outputs, grid = tag[8:11]
+    refuse(15, when=not (1 <= inputs <= 4 and 1 <= outputs <= 4) or 3 not in (inputs, outputs))
+    refuse(15, when=grid < 2)
+    refuse(16, when=grid**inputs > limit)
+    entry_size = 2 if two else 1
+    start, ranges = 52 if two else 48, []
+    for count in (entries[0] * inputs, grid**inputs * outputs, entries[1] * outputs):
+        refuse(2, when=start + count * entry_size > len(tag))
+        ranges += (start, count * entry_size)
+        start += count * entry_size
+    numbers = (inputs, outputs, grid, *entries, *struct.unpack_from(">9i", tag, 12), *ranges)
+    return Answer(f"value {tag[:4].decode()} {' '.join(map(str, numbers))}")
 
 
 def _mab(tag: bytes, limit: int, empty_step: int) -> Answer:

@@ -2,10 +2,12 @@
 use crate::told;
 use curve::Walk;
 use fields::Entry;
+use fields::InTag;
 use jobs::StreamJob;
 use lut::AbmTable;
 use lut::Lut;
 use lut::LutAnswer;
+use mft::MftTable;
 
 // Word i is 0xA5A50000 + i before the call.
 fn mark(words: &mut [u32]) {
@@ -44,6 +46,43 @@ fn put_lent(line: &mut [u8], at: usize, words: &[u32]) -> usize {
     end
 }
 
+// `mft1` or `mft2`, by the bytes of an entry.
+fn put_mft_kind(line: &mut [u8], entry_size: u8) -> usize {
+    if entry_size == 1 {
+        lines::put(line, 0, b"value mft1")
+    } else {
+        lines::put(line, 0, b"value mft2")
+    }
+}
+
+// Type, channels and grid.
+fn put_mft_head(line: &mut [u8], t: MftTable) -> usize {
+    let kind = put_mft_kind(line, t.entry_size);
+    let inputs = lines::put_number(line, kind, b' ', t.inputs as u64);
+    let outputs = lines::put_number(line, inputs, b' ', t.outputs as u64);
+    lines::put_number(line, outputs, b' ', t.grid as u64)
+}
+
+fn put_mft_entries(line: &mut [u8], at: usize, t: MftTable) -> usize {
+    let first = lines::put_number(line, at, b' ', t.input_entries as u64);
+    lines::put_number(line, first, b' ', t.output_entries as u64)
+}
+
+fn put_range(line: &mut [u8], at: usize, start: InTag, length: u64) -> usize {
+    let from = lines::put_number(line, at, b' ', start.0);
+    lines::put_number(line, from, b' ', length)
+}
+
+// Where the three tables lie.
+fn put_mft_tables(line: &mut [u8], at: usize, t: MftTable) -> usize {
+    let input_start = t.input_start;
+    let clut_start = t.clut_start;
+    let output_start = t.output_start;
+    let input = put_range(line, at, input_start, t.input_length);
+    let clut = put_range(line, input, clut_start, t.clut_length);
+    put_range(line, clut, output_start, t.output_length)
+}
+
 fn put_kind(line: &mut [u8], to_pcs: bool) -> usize {
     if to_pcs {
         lines::put(line, 0, b"value mAB")
@@ -62,10 +101,9 @@ fn put_head(line: &mut [u8], t: AbmTable, grid: &[u8]) -> usize {
 
 // Where the colour table's data lie, and the bytes of an entry.
 fn put_clut(line: &mut [u8], at: usize, t: AbmTable) -> usize {
-    let clut_start = t.clut_start;
-    let start = lines::put_number(line, at, b' ', clut_start.0);
-    let length = lines::put_number(line, start, b' ', t.clut_length as u64);
-    lines::put_number(line, length, b' ', t.entry_size as u64)
+    let start = t.clut_start;
+    let range = put_range(line, at, start, t.clut_length as u64);
+    lines::put_number(line, range, b' ', t.entry_size as u64)
 }
 
 // The curves of each run.
@@ -86,6 +124,12 @@ fn put_answer(line: &mut [u8], got: Lut) -> usize {
     let matrix = got.matrix;
     let bias = got.bias;
     match answer {
+        LutAnswer::Mft(t) => {
+            let head = put_mft_head(line, t);
+            let entries = put_mft_entries(line, head, t);
+            let numbers = lines::put_words(line, entries, &matrix);
+            put_mft_tables(line, numbers, t)
+        }
         LutAnswer::Abm(t) => {
             let head = put_head(line, t, &grid);
             let numbers = put_numbers(line, head, &matrix, &bias);
@@ -110,6 +154,7 @@ pub(crate) fn answer(
         Entry(job.offset),
         job.size,
         job.entries,
+        job.points,
         walk,
         words,
     );
