@@ -6,7 +6,7 @@ use native.Mathlib.Omega.{arith}
 use mathlib.Core.Path.{_≡_, refl, sym, ap, _∙_}
 use mathlib.Core.Bool.{_&&_}
 use mathlib.Core.List.{List, _++_, append-assoc}
-use mathlib.Core.Logic.{inl, inr}
+use mathlib.Core.Logic.{_⊎_, inl, inr}
 use lib.Dec.{ltb, eqb}
 use lib.ListN.{length, drop, length-append}
 use lib.Seq.{drop-append-le}
@@ -129,6 +129,16 @@ module _ (walk : Walk) (limit : ℕ) (low high : ℕ) (h : low ≤ high) where
   pub more-points : (p : List ℕ) (entry size words : ℕ) → Grows (Is 16) (lutOf walk limit low p entry size words) (lutOf walk limit high p entry size words)
   more-points p entry size words =
       lut-grows 16 walk limit limit low high words words (λ t start bytes size. inr refl) (λ t. mft-answered t (mftOf low t) (mftOf high t) (mft-limit low high h t)) p entry size
+
+-- both limits at once
+pub more-limits : (walk : Walk) (low high : ℕ) → low ≤ high → (points more : ℕ) → points ≤ more → (p : List ℕ) (entry size words : ℕ) → Grows (λ a. Is 10 a ⊎ Is 16 a) (lutOf walk low points p entry size words) (lutOf walk high more p entry size words)
+more-limits walk low high l points more m p entry size words = elim (more-limit walk low high l points p entry size words) [
+  | inl e ↦ inl (inl e)
+  | inr e ↦ elim (more-points walk high points more m p entry size words) [
+    | inl f ↦ inl (inr (ap (λ (a : Answer). a .state) (sym e) ∙ f))
+    | inr f ↦ inr (f ∙ e)
+  ]
+]
 
 -- ---- more slots
 

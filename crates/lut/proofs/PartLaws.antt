@@ -5,7 +5,7 @@ use native.Mathlib.Omega.{arith}
 use mathlib.Core.Path.{_≡_, refl, sym, _∙_, ap}
 use mathlib.Core.Bool.{Bool, true, false}
 use mathlib.Core.List.{List, [], _∷_, _++_}
-use lib.ListN.{length, getD, take, drop, set, replicate, length-append}
+use lib.ListN.{length, getD, take, drop, replicate, length-append}
 use lib.Seq.{sets, length-sets}
 use types.Run.{OneOf}
 use denote.Enum.Declared.{tagOf as placeIn}

@@ -1,22 +1,22 @@
 -- Conformance to lut8Type and lut16Type, both ways: a tag that is laid out as the standard says, and keeps within what this library asks
 -- besides, is accepted with its fields; and what is accepted is laid out so.
 -- Assumes nothing.
-use Prim.Native.Nat.{ℕ, _+_, _≤_}
+use Prim.Native.Nat.{ℕ, _≤_}
 use native.Mathlib.Omega.{arith}
-use mathlib.Core.Path.{_≡_, refl, sym, subst}
+use mathlib.Core.Path.{_≡_, refl, subst}
 use mathlib.Core.Bool.{Bool, true, false, cond, not, _||_, or-true, true≢false}
 use mathlib.Core.List.{List}
 use mathlib.Core.Logic.{_⊎_, inl, inr}
 use lib.Dec.{ltb, eqb}
 use lib.ListN.{length}
 use borrow.Author.Tests.{eq-eqb, le-ltb, ltb-false, eqb-true}
-use Rattle.clut.specs.Table.{pointsOf, lengthOf}
+use Rattle.clut.specs.Table.{pointsOf}
 use Rattle.fields.specs.Bytes.{u32At}
 use Rattle.fields.specs.Tag.{signatureOf}
 use Rattle.fields.specs.declared.Kind.the-variants.{Mft1, Mft2}
 use Rattle.fields.proofs.Choice.{each, neither-left, neither-right}
 use Rattle.mft.specs.Answer.{Fields, State, value, refused, fieldsOf}
-use Rattle.mft.specs.Layout.{isWide, isMft, inputs, outputs, gridPoints, inputEntries, outputEntries, tablesStart, inputLength, outputLength, colourTable, tablesEnd}
+use Rattle.mft.specs.Layout.{isWide, isMft, inputs, outputs, gridPoints, inputEntries, outputEntries, tablesStart, colourTable, tablesEnd}
 use Rattle.mft.specs.Mft.{outside, badEntries, badChannels, badNumbers, tablesOf, numbersOf, mftOf}
 use Rattle.mft.specs.Standard.{LaidOut, Asked}
 

@@ -1,19 +1,20 @@
 -- Demand 1 of `mft1` and `mft2`: in an accepted answer the matrix and the three tables lie inside the tag, and each valid grid index reads
--- inside the colour table. The points fit 32 bits, and the colour table's bytes need 35.
+-- inside the colour table. And why nothing overflows: the grid points fit 32 bits, the bytes of the colour table 35.
 -- Assumes nothing.
 use Prim.Native.Nat.{ℕ, _+_, _*_, _^_, _≤_, _<_}
 use native.Mathlib.Omega.{arith}
 use native.Mathlib.Nat.{mul-le-mul}
-use mathlib.Core.Path.{_≡_, refl, ap}
+use mathlib.Core.Path.{_≡_, refl}
 use mathlib.Core.Bool.{Bool, true, false, cond}
 use mathlib.Core.List.{List}
-use lib.ListN.{length, getD, replicate}
+use lib.ListN.{length}
 use Rattle.clut.specs.Table.{pointsOf, lengthOf, inGrid, numberOf}
 use Rattle.clut.proofs.Grid.{entry-below, power-is}
 use Rattle.mft.specs.Answer.{Fields, value, fieldsOf, toldTable}
-use Rattle.mft.specs.Layout.{isWide, inputs, outputs, gridPoints, entrySize, colourTable, tablesStart, tablesEnd}
+use Rattle.mft.specs.Layout.{isWide, inputs, outputs, gridPoints, entrySize, colourTable}
 use Rattle.mft.specs.Mft.{mftOf}
 use Rattle.mft.proofs.Conforms.{accepted, start-least}
+use Rattle.mft.proofs.Laws.{power-most}
 
 pub record Inside (t : List ℕ) (f : Fields) : Type 0 where
   pub matrix-in-tag : 12 + 4 * 9 ≤ length t
@@ -38,3 +39,25 @@ inside limit t f h =
       bytes-are = bytes;
       entry-in-table = λ index channel valid low. omega (arith, entry-below (toldTable f) index channel valid low, bytes);
     }
+
+-- ---- widths
+
+size-most : (t : List ℕ) → entrySize t ≤ 2
+unfolding entrySize
+size-most t = by (isWide t)
+  where
+    by : (b : Bool) → cond b 2 1 ≤ 2
+    by true = omega arith
+    by false = omega arith
+
+pub record Widths (t : List ℕ) : Type 0 where
+  pub points-fit : pointsOf (colourTable t) < 2 ^ 32
+  pub bytes-fit : lengthOf (colourTable t) < 2 ^ 35
+
+-- 255^4 points of four channels, two bytes each
+pub widths : (limit : ℕ) (t : List ℕ) (f : Fields) → mftOf limit t ≡ value f → gridPoints t < 256 → Widths t
+unfolding colourTable
+widths limit t f h l =
+    let a = accepted limit t f h in
+    let points : pointsOf (colourTable t) ≤ 255 ^ 4 = rw (power-is (inputs t) (gridPoints t)) (power-most (gridPoints t) (inputs t) l (a .asked .few-inputs)) in
+    record { points-fit = omega (arith, points); bytes-fit = omega (arith, mul-le-mul (mul-le-mul points (a .asked .few-outputs)) (size-most t)) }

@@ -4,14 +4,14 @@ use Prim.Native.Nat.{ℕ, _+_, _*_, _^_, _≤_, _<_}
 use native.Mathlib.Omega.{arith}
 use native.Mathlib.Numerals.{add-one}
 use native.Mathlib.Nat.{le-trans, mul-le-mul, pow-zero, pow-suc, pow-le-pow-left, pow-le-pow-right}
-use mathlib.Core.Path.{_≡_, refl, sym, _∙_, ap}
+use mathlib.Core.Path.{_≡_, refl, sym, _∙_}
 use mathlib.Core.Bool.{Bool, true, false, not, _||_, or-true}
 use mathlib.Core.List.{List, [], _∷_}
 use lib.Dec.{ltb, eqb}
 use lib.ListN.{length, getD, replicate}
 use types.Run.{OneOf}
 use denote.Enum.Declared.{tagOf as placeIn}
-use mir.Syntax.{w32, w64}
+use mir.Syntax.{w64}
 use mir.Val.{Fits}
 use borrow.Author.Tests.{eq-eqb, ne-eqb, lt-ltb, le-ltb, ltb-false}
 use Rattle.clut.specs.Table.{pointsOf}
@@ -26,7 +26,7 @@ use Rattle.fields.proofs.Choice.{neither-left, neither-right}
 use Rattle.fields.proofs.Kind as kinds
 use Rattle.fields.proofs.Signatures.{arm, unlike, others}
 use Rattle.mft.specs.Answer.{State, value, refused, stateFrom, fieldsOf, answerOf}
-use Rattle.mft.specs.Layout.{isWide, isMft, inputs, outputs, gridPoints, inputEntries, outputEntries, entrySize, tablesStart, entriesAt, inputLength, colourTable, Sized}
+use Rattle.mft.specs.Layout.{isWide, isMft, inputs, outputs, gridPoints, inputEntries, outputEntries, entrySize, tablesStart, entriesAt, colourTable, Sized}
 use Rattle.mft.specs.Mft.{outside, badEntries, badChannels, badNumbers, tablesOf, numbersOf, mftOf}
 use Rattle.mft.specs.declared.MftAnswer.{MftAnswer}
 use Rattle.mft.specs.declared.MftTable.{MftTable}
@@ -128,13 +128,12 @@ pub ruleset number-laws = (numbers-entries, numbers-channels, numbers-grid)
 
 -- ---- products and sums
 
--- a grid byte to the power of at most four channels fits 32 bits
-pub power-low : (g n : ℕ) → g < 256 → n ≤ 4 → g ^ n < 2 ^ 32
-power-low g n l m =
+-- a grid byte to the power of at most four channels
+pub power-most : (g n : ℕ) → g < 256 → n ≤ 4 → g ^ n ≤ 255 ^ 4
+power-most g n l m =
     let a : g ≤ 255 = omega arith in
     let b : 0 < 255 = omega arith in
-    let c : 255 ^ n ≤ 255 ^ 4 = pow-le-pow-right b m in
-    omega (arith, le-trans (pow-le-pow-left a n) c)
+    le-trans (pow-le-pow-left a n) (pow-le-pow-right b m)
 
 module _ (g p i : ℕ) (e : p ≡ g ^ i) where
   pub power-turns : p * g ≡ g ^ (i + 1)
@@ -142,7 +141,7 @@ module _ (g p i : ℕ) (e : p ≡ g ^ i) where
 
   module _ (n : ℕ) (l : i < n) (m : n ≤ 4) (b : g < 256) where
     pub power-stays : p * g < 2 ^ 32
-    power-stays = let j : i + 1 ≤ 4 = omega arith in rw power-turns (power-low g (i + 1) b j)
+    power-stays = let j : i + 1 ≤ 4 = omega arith in rw power-turns (omega (arith, power-most g (i + 1) b j))
 
     pub power-fits : Fits w64 (p * g)
     power-fits = record { fits = omega (arith, power-stays) }
