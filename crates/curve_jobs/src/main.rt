@@ -1,7 +1,7 @@
 // Runs a table of `curve-line` jobs, each behind its length (32 bits, big-endian), and prints what `curve-line` prints for each.
 use fields::InTag;
 
-// Runs the next job, and says whether there was one.
+// Runs the next job, and says whether there was a whole one.
 fn run_next(job: &mut [u8]) -> bool {
     let mut head = [0u8; 4];
     if io::read_full(0, &mut head) < 4 {
@@ -11,7 +11,9 @@ fn run_next(job: &mut [u8]) -> bool {
     if job.len() < length {
         return false;
     }
-    io::read_full(0, &mut job[..length]);
+    if io::read_full(0, &mut job[..length]) < length {
+        return false;
+    }
     let mut line = [0u8; 256];
     let end = jobs::curve_line(&job[..length], &mut line);
     if end <= line.len() {

@@ -21,6 +21,8 @@ run-next-spec =
     (λ c. sym (length-take-le _ _ (search needs)))
     (λ c κs. search needs)
     (λ c. search needs)
+    (λ c. search needs)
+    (λ c. search needs)
     (λ c. sym (length-take-le _ _ (search needs)))
     (λ c. search needs)
     (λ c κs. search needs)
