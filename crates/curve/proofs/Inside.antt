@@ -2,20 +2,21 @@
 -- Assumes nothing.
 use Prim.Native.Nat.{ℕ, _+_, _≤_}
 use native.Mathlib.Omega.{arith}
-use mathlib.Core.Path.{_≡_, refl}
+use mathlib.Core.Path.{_≡_, refl, sym}
 use mathlib.Core.Bool.{_&&_}
 use mathlib.Core.List.{List}
 use lib.Dec.{ltb, leb}
 use lib.ListN.{length}
 use borrow.Author.Tests.{ltb-false}
 use Rattle.fields.proofs.Choice.{each}
-use Rattle.curve.specs.Answer.{Answer, value, absent, refused, answerOf}
+use Rattle.curve.specs.Answer.{Answer, value, absent, answerOf}
 use Rattle.curve.specs.Curve.{trcOf, curveOf, tagOf}
-use Rattle.curve.specs.Shape.{Shape, Seen, is, no, empty, table, para, sizeOf, stepOf, wordsOf}
+use Rattle.curve.specs.Shape.{Shape, is, empty, table, para, sizeOf, stepOf}
 use Rattle.curve.specs.Standard.{Laid}
 use Rattle.curve.specs.declared.Walk.{Walk}
 use Rattle.curve.specs.declared.Walk.the-variants.{Crate, Book}
 use Rattle.curve.proofs.Conforms.{laid}
+use Rattle.curve.proofs.Told.{Told, told}
 
 -- ---- one curve
 
@@ -55,31 +56,25 @@ book-step (para type ps) = refl
 
 -- what stands behind a value
 pub record Accepted (walk : Walk) (limit : ℕ) (p : List ℕ) (entry size : ℕ) (ws : List ℕ) (consumed : ℕ) : Type 0 where
-  pub shape : Shape
-  pub seen : curveOf limit (tagOf p entry size) ≡ is shape
-  pub record-is : ws ≡ wordsOf 12 shape
-  pub step-is : consumed ≡ stepOf walk shape
-  pub curve-in-tag : sizeOf shape ≤ length (tagOf p entry size)
+  pub curve : Told walk 12 (curveOf limit (tagOf p entry size)) ws consumed
+  pub curve-in-tag : sizeOf (curve .shape) ≤ length (tagOf p entry size)
   pub tag-in-profile : entry + size ≤ length p
 
 module _ (walk : Walk) (limit : ℕ) (p : List ℕ) (entry size : ℕ) where
   abbrev Behind : Answer → Type 0
-  Behind (value ws consumed) = Accepted walk limit p entry size ws consumed
-  Behind absent = Unit
-  Behind (refused n) = Unit
-
-  seen-behind : (x : Seen) → curveOf limit (tagOf p entry size) ≡ x → entry + size ≤ length p → Behind (answerOf walk 12 x)
-  unfolding answerOf
-  seen-behind (is s) h l = record { shape = s; seen = h; record-is = refl; step-is = refl; curve-in-tag = curve-inside limit (tagOf p entry size) s h; tag-in-profile = l }
-  seen-behind (no n) h l = tt
+  Behind a = (ws : List ℕ) (consumed : ℕ) → value ws consumed ≡ a → (entry + size ≤ length p) × (value ws consumed ≡ answerOf walk 12 (curveOf limit (tagOf p entry size)))
 
   behind : Behind (trcOf walk limit p entry size)
   unfolding trcOf
   behind =
-      each Behind (ltb (length p) (entry + 4)) _ _ (λ _. tt)
-      (λ _. each Behind (leb 1 size && ltb size 12) _ _ (λ _. tt)
-      (λ _. each Behind (ltb (length p) (entry + size)) _ _ (λ _. tt)
-      (λ l. seen-behind (curveOf limit (tagOf p entry size)) refl (ltb-false (length p) (entry + size) l))))
+      let none : Behind absent = λ ws consumed h. let z : _≡_ {A = ℕ} 0 1 = cc in absurd (omega arith) in
+      each Behind (ltb (length p) (entry + 4)) _ _ (λ _. none)
+      (λ _. each Behind (leb 1 size && ltb size 12) _ _ (λ _. none)
+      (λ _. each Behind (ltb (length p) (entry + size)) _ _ (λ _ ws consumed h. let z : _≡_ {A = ℕ} 0 1 = cc in absurd (omega arith))
+      (λ l ws consumed h. (ltb-false (length p) (entry + size) l, h))))
 
   pub accepted-inside : (ws : List ℕ) (consumed : ℕ) → trcOf walk limit p entry size ≡ value ws consumed → Accepted walk limit p entry size ws consumed
-  accepted-inside ws consumed h = rw h at behind
+  accepted-inside ws consumed h =
+      let b = behind ws consumed (sym h) in
+      let c = told walk 12 (curveOf limit (tagOf p entry size)) (b .1) in
+      record { curve = c; curve-in-tag = curve-inside limit (tagOf p entry size) (c .shape) (c .seen); tag-in-profile = b .0 }

@@ -1,4 +1,5 @@
 pub mod Laws
+pub mod Told
 pub mod Unique
 pub mod Conforms
 pub mod Inside

@@ -31,7 +31,7 @@ answer-size : (limit : ℕ) (p : List ℕ) (entry size : ℕ) (a : Answer) → t
 unfolding textOf
 answer-size limit p entry size (value ws consumed) h =
     let w = accepted-inside Crate limit p entry size ws consumed h in
-    let k : length (drop 3 ws) ≡ 7 = ap (λ (x : List ℕ). length (drop 3 x)) (w .record-is) ∙ seven 12 (w .shape) in
+    let k : length (drop 3 ws) ≡ 7 = ap (λ (x : List ℕ). length (drop 3 x)) (w .curve .record-is) ∙ seven 12 (w .curve .shape) in
     simp length-append (omega (arith, record-size 10 ws k))
 answer-size limit p entry size absent h = omega arith
 answer-size limit p entry size (refused n) h = simp length-append (omega (arith, number-size 32 n))

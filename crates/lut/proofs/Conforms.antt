@@ -7,7 +7,7 @@ use mathlib.Core.Path.{_≡_, refl, sym, ap, _∙_}
 use mathlib.Core.Bool.{Bool, true, false, cond}
 use mathlib.Core.List.{List, [], _∷_, _++_}
 use mathlib.Core.Logic.{_⊎_, inl, inr}
-use lib.Dec.{ltb, eqb}
+use lib.Dec.{eqb}
 use lib.ListN.{length, drop, length-take, length-drop}
 use borrow.Author.Tests.{eq-eqb, ne-eqb, eqb-true, eqb-false, le-ltb}
 use Rattle.fields.specs.Place.{countedSize}
@@ -18,8 +18,7 @@ use Rattle.clut.specs.Clut.{is, clutOf}
 use Rattle.clut.specs.Standard.{Within as TableWithin}
 use Rattle.clut.specs.Table.{Table, lengthOf}
 use Rattle.clut.proofs.Conforms.{conforms as table-conforms, accepted as table-accepted}
-use Rattle.curve.specs.Curve.{curveOf}
-use Rattle.curve.specs.Shape.{Shape, stepOf, is as seen, no as unseen}
+use Rattle.curve.specs.Shape.{Shape, stepOf, is as seen}
 use Rattle.curve.specs.Standard.{Laid, Within}
 use Rattle.curve.specs.declared.Walk.{Walk}
 use Rattle.curve.specs.declared.Walk.the-variants.{Book}
@@ -29,7 +28,7 @@ use Rattle.mft.specs.Answer.{Fields, State as Mft·State, answerOf, fieldsOf}
 use Rattle.mft.specs.Standard.{LaidOut as MftLaidOut, Asked as MftAsked}
 use Rattle.mft.proofs.Conforms.{start-least, start-before, type-known, conforms as mft-accepted, Accepted as MftAccepted, accepted as accepted-mft}
 use Rattle.run.specs.Run.{Placed, whole, raised, entryAt, runAt, endOf, recordWords, Each}
-use Rattle.run.proofs.Runs.{Reads, run-reads, reads-run, run-count}
+use Rattle.run.proofs.Runs.{entry-there, Reads, run-reads, reads-run, run-count}
 use Rattle.lut.specs.Abm.{noTable, tableOf, valueFrom, recordedOf, judgedOf, abmOf}
 use Rattle.lut.specs.Answer.{Abm, mft, abm, Answer, fromMft}
 use Rattle.lut.specs.Layout.{inputs, outputs, aOffset, mOffset, bOffset, matrixOffset, clutOffset, aCurves, mCurves, bCurves, planOf, recordsNeeded}
@@ -55,12 +54,7 @@ module _ (limit : ℕ) (t : List ℕ) where
 
   -- and one that is seen there is laid out so
   there-seen : (at : ℕ) (s : Shape) → entryAt limit t at ≡ seen s → Laid (drop at t) s × Within limit s
-  unfolding entryAt
-  there-seen at s = by (ltb (length t) (at + 12))
-    where
-      by : (b : Bool) → cond b (unseen 2) (curveOf limit (drop at t)) ≡ seen s → Laid (drop at t) s × Within limit s
-      by true h = let z : _≡_ {A = ℕ} 0 1 = cc in absurd (omega arith)
-      by false h = curve-laid limit (drop at t) s h
+  there-seen at s h = curve-laid limit (drop at t) s (entry-there limit t at s h .1)
 
   row-reads : (at : ℕ) (cs : List Placed) → Row t at cs → Kept limit cs → Reads Book limit t at cs
   unfolding Row Reads Each

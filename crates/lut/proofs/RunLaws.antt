@@ -24,7 +24,8 @@ use Rattle.curve.proofs.CurveAnswer as answers
 use Rattle.curve.proofs.Inside.{step-most}
 use Rattle.run.specs.Run.{Ran, raised, entryAt, follow, runAt, recordWords}
 use Rattle.run.proofs.Runs.{entry-inside, run-turn}
-use Rattle.run.proofs.Writing.{told, told-no, told-present, Writing, turns, never}
+use Rattle.curve.proofs.Told.{told, told-no, told-present}
+use Rattle.run.proofs.Writing.{Writing, turns, never}
 use Rattle.lut.specs.Verdict.{good, bad, judgedFrom, ended, curveJudged}
 use Rattle.lut.specs.declared.nested.Verdict.{Verdict}
 

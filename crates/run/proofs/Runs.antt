@@ -14,14 +14,18 @@ use Rattle.curve.specs.declared.Walk.{Walk}
 use Rattle.curve.proofs.Inside.{curve-inside}
 use Rattle.run.specs.Run.{Placed, whole, Ran, placed, done, stops, first, raised, entryAt, follow, runAt, endOf, Each}
 
--- a curve that is seen at an offset of the tag ends inside the tag
-pub entry-inside : (limit : ℕ) (t : List ℕ) (at : ℕ) (s : Shape) → entryAt limit t at ≡ is s → at + sizeOf s ≤ length t
+-- a curve that is seen at an offset of the tag is what the bytes there say, and 12 of them there are
+pub entry-there : (limit : ℕ) (t : List ℕ) (at : ℕ) (s : Shape) → entryAt limit t at ≡ is s → (at + 12 ≤ length t) × (curveOf limit (drop at t) ≡ is s)
 unfolding entryAt
-entry-inside limit t at s = by (ltb (length t) (at + 12)) refl
+entry-there limit t at s = by (ltb (length t) (at + 12)) refl
   where
-    by : (b : Bool) → ltb (length t) (at + 12) ≡ b → cond b (no 2) (curveOf limit (drop at t)) ≡ is s → at + sizeOf s ≤ length t
+    by : (b : Bool) → ltb (length t) (at + 12) ≡ b → cond b (no 2) (curveOf limit (drop at t)) ≡ is s → (at + 12 ≤ length t) × (curveOf limit (drop at t) ≡ is s)
     by true e h = let z : _≡_ {A = ℕ} 0 1 = cc in absurd (omega arith)
-    by false e h = omega (arith, curve-inside limit (drop at t) s h, ltb-false (length t) (at + 12) e, length-drop at t)
+    by false e h = (ltb-false (length t) (at + 12) e, h)
+
+-- and it ends inside the tag
+pub entry-inside : (limit : ℕ) (t : List ℕ) (at : ℕ) (s : Shape) → entryAt limit t at ≡ is s → at + sizeOf s ≤ length t
+entry-inside limit t at s h = let w = entry-there limit t at s h in omega (arith, curve-inside limit (drop at t) s (w .1), w .0, length-drop at t)
 
 module _ (walk : Walk) (limit : ℕ) (t : List ℕ) where
   -- what holds of every run: of a run of no places, of one that stops at once, and of one that goes on, where it holds of the rest

@@ -1,4 +1,4 @@
--- What a curve reader's answer tells of a run, and what holds while a whole run is written into lent slots.
+-- The records of a run, and what holds while a whole run is written into lent slots.
 -- Assumes nothing.
 use Prim.Native.Nat.{ℕ, suc, _+_, _-_, _*_, _≤_, _<_}
 use native.Mathlib.Omega.{arith}
@@ -8,37 +8,12 @@ use mathlib.Core.List.{List, [], _∷_, _++_, append-assoc}
 use lib.ListN.{length, drop, length-append}
 use lib.Seq.{sets, sets-eq, length-sets}
 use Rattle.fields.proofs.Stores.{sets-append}
-use Rattle.curve.specs.Answer.{value, absent, refused, answerOf}
-use Rattle.curve.specs.Shape.{Shape, empty, table, para, Seen, is, no, stepOf, wordsOf}
+use Rattle.curve.specs.Answer.{value, refused, answerOf}
+use Rattle.curve.specs.Shape.{Shape, empty, table, para, wordsOf}
 use Rattle.curve.specs.declared.Walk.{Walk}
+use Rattle.curve.proofs.Told.{told, told-no}
 use Rattle.run.specs.Run.{Placed, whole, Ran, placed, first, raised, entryAt, runAt, recordWords, recordsOf}
 use Rattle.run.proofs.Runs.{run-turn, run-count}
-
--- ---- what an answer tells
-
--- a value comes of a curve
-pub record Told (walk : Walk) (start : ℕ) (x : Seen) (ws : List ℕ) (consumed : ℕ) : Type 0 where
-  pub shape : Shape
-  pub seen : x ≡ is shape
-  pub record-is : ws ≡ wordsOf start shape
-  pub step-is : consumed ≡ stepOf walk shape
-
-pub told : (walk : Walk) (start : ℕ) (x : Seen) {ws : List ℕ} {consumed : ℕ} → value ws consumed ≡ answerOf walk start x → Told walk start x ws consumed
-unfolding answerOf
-told walk start (is s) h = record { shape = s; seen = refl; record-is = cc; step-is = cc }
-told walk start (no n) h = let z : _≡_ {A = ℕ} 0 1 = cc in absurd (omega arith)
-
--- a refusal comes of one
-pub told-no : (walk : Walk) (start : ℕ) (x : Seen) {n : ℕ} → refused n ≡ answerOf walk start x → x ≡ no n
-unfolding answerOf
-told-no walk start (is s) h = let z : _≡_ {A = ℕ} 0 1 = cc in absurd (omega arith)
-told-no walk start (no m) {n} h = let e : n ≡ m = cc in cc
-
--- and there is no absence
-pub told-present : (walk : Walk) (start : ℕ) (x : Seen) → absent ≡ answerOf walk start x → ⊥
-unfolding answerOf
-told-present walk start (is s) h = let z : _≡_ {A = ℕ} 0 1 = cc in omega arith
-told-present walk start (no m) h = let z : _≡_ {A = ℕ} 0 1 = cc in omega arith
 
 -- ---- records
 
