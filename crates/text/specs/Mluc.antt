@@ -46,12 +46,16 @@ first r rest = record { records = r ∷ rest .records; end = rest .end }
 unfoldable pub even : ℕ → ℕ
 even n = n / 2 * 2
 
--- record k: the header first, then its string. Nothing is trimmed
+-- record k, as its header has it; nothing is trimmed
+abbrev pub localizedAt : List ℕ → ℕ → Localized
+localizedAt t k = record { language = languageAt t k; country = countryAt t k; start = stringStart t k; bytes = even (stringLength t k) }
+
+-- what stands at its place: the header first, then its string
 unfoldable pub recordAt : List ℕ → ℕ → Seen
 recordAt t k =
     cond (ltb (length t) (headerEnd k)) (no header) (
     cond (ltb (length t) (stringEnd t k)) (no string) (
-    is record { language = languageAt t k; country = countryAt t k; start = stringStart t k; bytes = even (stringLength t k) }))
+    is (localizedAt t k)))
 
 -- what is seen at a place, and the records that follow a record there
 abbrev pub follow : Seen → Ran → Ran
@@ -61,7 +65,7 @@ follow (no f) rest = stops f
 -- n records from record k on, header and string in turn
 unfoldable pub recordsFrom : List ℕ → ℕ → ℕ → Ran
 recordsFrom t k zero = done
-recordsFrom t k (suc n) = follow (recordAt t k) (recordsFrom t (suc k) n)
+recordsFrom t k (suc n) = follow (recordAt t k) (recordsFrom t (k + 1) n)
 
 -- the first record is always read
 unfoldable pub recordsAsked : List ℕ → ℕ
