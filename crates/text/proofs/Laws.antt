@@ -214,5 +214,9 @@ module _ (p s : List ℕ) (entry size end : ℕ) (n : end ≡ countedSize size) 
 pub ruleset string-laws = (string-small, string-past, string-short, string-kind)
 
 -- a tag has as many bytes as its size says
-pub tag-sized : (p : List ℕ) (entry end from to : ℕ) (place : Place) → place ≡ placeOf (length p) entry end → place ≡ In from to → 8 ≤ end → end < 2 ^ 32 → (8 ≤ length (take (to - from) (drop from p))) × (length (take (to - from) (drop from p)) < 2 ^ 32)
-tag-sized p entry end from to place h e l m = let k = part-length (length p) entry end h e p refl in (omega arith, omega arith)
+module _ (p : List ℕ) (entry end from to : ℕ) (place : Place) (h : place ≡ placeOf (length p) entry end) (e : place ≡ In from to) where
+  pub tag-long : 8 ≤ end → 8 ≤ length (take (to - from) (drop from p))
+  tag-long l = omega (arith, part-length (length p) entry end h e p refl)
+
+  pub tag-short : end < 2 ^ 32 → length (take (to - from) (drop from p)) < 2 ^ 32
+  tag-short l = omega (arith, part-length (length p) entry end h e p refl)
