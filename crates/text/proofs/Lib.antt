@@ -1,3 +1,5 @@
 pub mod Cutting
 pub mod Records
 pub mod Laws
+pub mod Conforms
+pub mod Cases

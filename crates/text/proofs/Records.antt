@@ -108,7 +108,7 @@ unfolding recordsFrom
 whole-count t k zero = λ h. refl
 whole-count t k (suc n) = by (recordAt t k) (whole-count t (k + 1) n)
   where
-    by : (x : Seen) → (recordsFrom t (k + 1) n .end ≡ whole → length (recordsFrom t (k + 1) n .records) ≡ n) → follow x (recordsFrom t (k + 1) n) .end ≡ whole → length (follow x (recordsFrom t (k + 1) n) .records) ≡ suc n
+    by : (x : Seen) → (recordsFrom t (k + 1) n .end ≡ whole → length (recordsFrom t (k + 1) n .records) ≡ n) → follow x (λ r. first r (recordsFrom t (k + 1) n)) .end ≡ whole → length (follow x (λ r. first r (recordsFrom t (k + 1) n)) .records) ≡ suc n
     by (is r) ih h = ap suc (ih h)
     by (no f) ih h = let z : _≡_ {A = ℕ} 0 1 = cc in absurd (omega arith)
 

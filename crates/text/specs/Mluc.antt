@@ -57,15 +57,15 @@ recordAt t k =
     cond (ltb (length t) (stringEnd t k)) (no string) (
     is (localizedAt t k)))
 
--- what is seen at a place, and the records that follow a record there
-abbrev pub follow : Seen → Ran → Ran
-follow (is r) rest = first r rest
-follow (no f) rest = stops f
+-- what is seen at a place, and what follows a record there
+abbrev pub follow : Seen → (Localized → Ran) → Ran
+follow (is r) next = next r
+follow (no f) next = stops f
 
 -- n records from record k on, header and string in turn
 unfoldable pub recordsFrom : List ℕ → ℕ → ℕ → Ran
 recordsFrom t k zero = done
-recordsFrom t k (suc n) = follow (recordAt t k) (recordsFrom t (k + 1) n)
+recordsFrom t k (suc n) = follow (recordAt t k) (λ r. first r (recordsFrom t (k + 1) n))
 
 -- the first record is always read
 unfoldable pub recordsAsked : List ℕ → ℕ
