@@ -22,6 +22,7 @@ use Rattle.text.specs.Mluc.{Localized, Seen, is, no, Fault, header, stri
 use Rattle.text.specs.Standard.{Ascii, TextType, UnicodeNot, UnicodeThere, TextDescriptionType, RecordLaid, Row, MultiLocalizedUnicodeType, TextTaken, AsciiTaken, unicodeRange, UnicodeTaken, UnicodeShort, DescriptionTaken, RecordTaken, RecordsTaken}
 use Rattle.text.specs.Text.{textOf, unicodeOf, descOf, slottedOf, endedBy, mlucOf, byType, tagOf, stringOf}
 use Rattle.text.proofs.Cutting.{kept-cut, cut-kept}
+use Rattle.text.proofs.Found.{Value, in-profile, found}
 use Rattle.text.proofs.Laws.{as-text, as-mluc, as-desc}
 use Rattle.text.proofs.Records.{whole-count}
 
@@ -60,6 +61,19 @@ unicode-cut : (t : List ℕ) (at n : ℕ) → UnicodeNot t at n ⊎ UnicodeThere
 unicode-cut t at n (inl h) = rw (h .count, h .none) record { within = omega arith; zeros = λ i l m. absurd (omega arith); last = λ i e z. omega (arith, e) }
 unicode-cut t at n (inr h) = rw (h .count) (cut-ended (unitOf t (unicodeStart at)) n (h .characters) (h .ended))
 
+records-taken : (t : List ℕ) (rs : List Localized) → MultiLocalizedUnicodeType t rs → RecordsTaken t rs
+unfolding recordsAsked Row
+records-taken t rs h =
+    let some : recordCount t ≡ 0 → ⊥ = λ z. omega (arith, z, h .count, h .some-record) in
+    record { signature = h .signature; count = rw (ne-eqb (recordCount t) 0 some) (h .count); row = row-taken 0 rs (h .row) }
+  where
+    one : (k : ℕ) (r : Localized) → RecordLaid t k r → r ≡ localizedAt t k
+    one k r l = rw (l .units, ← l .language, ← l .country, ← l .start, ← l .bytes)
+
+    row-taken : (k : ℕ) (rs : List Localized) → Row (RecordLaid t) k rs → Row (RecordTaken t) k rs
+    row-taken k [] h = tt
+    row-taken k (r ∷ rs) (l, rest) = (record { is = one k r l; header-in-tag = l .header-in-tag; string-in-tag = l .string-in-tag }, row-taken (k + 1) rs rest)
+
 -- ---- what is taken is accepted
 
 text-accepted : (t : List ℕ) (s : Span) (words : ℕ) → TextTaken t s → byType t words ≡ text s
@@ -95,7 +109,7 @@ mluc-accepted t rs words h l = as-mluc t words (h .signature) ∙ rw (records-re
 -- ---- what is accepted is taken
 
 -- records that are read whole are taken
-read-row : (t : List ℕ) (n k : ℕ) → Row (RecordTaken t) k (recordsFrom t k n .records)
+pub read-row : (t : List ℕ) (n k : ℕ) → Row (RecordTaken t) k (recordsFrom t k n .records)
 unfolding Row recordsFrom recordAt
 read-row t zero k = tt
 read-row t (suc n) k = by (ltb (length t) (headerEnd k)) refl (ltb (length t) (stringEnd t k)) refl (read-row t n (k + 1))
@@ -121,14 +135,12 @@ module _ (t : List ℕ) where
 
   unicode-taken : (at : ℕ) → UnicodeTaken t at (unicodeOf t at) ⊎ UnicodeShort t at (unicodeOf t at)
   unfolding unicodeOf
-  unicode-taken at =
-      let c : Cut (unitOf t (unicodeStart at)) (unicodeCount t at) (keptOf (unitOf t (unicodeStart at)) (unicodeCount t at)) = kept-cut (unitOf t (unicodeStart at)) (unicodeCount t at) in
-      by (ltb (length t) (unicodeEnd t at)) refl
+  unicode-taken at = by (ltb (length t) (unicodeEnd t at)) refl
     where
       by : (b : Bool) → ltb (length t) (unicodeEnd t at) ≡ b → UnicodeTaken t at (unicodeOf t at) ⊎ UnicodeShort t at (unicodeOf t at)
       by true e = inr record { short = ltb-true _ _ e; answer-is = rw e }
       by false e =
-          let c : Cut (unitOf t (unicodeStart at)) (unicodeCount t at) (keptOf (unitOf t (unicodeStart at)) (unicodeCount t at)) = kept-cut (unitOf t (unicodeStart at)) (unicodeCount t at) in
+          let c = kept-cut (unitOf t (unicodeStart at)) (unicodeCount t at) in
           inl record { units = keptOf (unitOf t (unicodeStart at)) (unicodeCount t at); whole = ltb-false _ _ e; string = c; answer-is = unicode-accepted t at _ (ltb-false _ _ e) c }
 
   mluc-taken : (words : ℕ) → u32At t 0 ≡ signatureOf Mluc → Taken (mlucOf t words)
@@ -157,3 +169,37 @@ module _ (t : List ℕ) where
         unicode = unicode-taken (asciiEnd t);
       })))
       (λ _. tt)))
+
+-- ---- in a profile
+
+module _ (p : List ℕ) (entry size : ℕ) (l : entry + countedSize size ≤ length p) (words : ℕ) where
+  pub text-conforms : (n : ℕ) → TextType (tagOf p entry size) n → stringOf p entry size words ≡ text (span 8 n)
+  text-conforms n h = in-profile p entry size words l (omega (arith, h .whole)) ∙ text-accepted _ (span 8 n) words (text-taken _ n h)
+
+  pub desc-conforms : (n m : ℕ) → TextDescriptionType (tagOf p entry size) n m → let at : ℕ = asciiEnd (tagOf p entry size) in stringOf p entry size words ≡ desc (span 12 n) record { language = unicodeLanguage (tagOf p entry size) at; string = unicodeRange (tagOf p entry size) at m }
+  desc-conforms n m h =
+      let t : List ℕ = tagOf p entry size in
+      in-profile p entry size words l (omega (arith, h .whole))
+      ∙ desc-accepted t (span 12 n) _ words (ascii-taken t n m h) (unicode-accepted t (asciiEnd t) m (omega (arith, h .whole)) (unicode-cut t (asciiEnd t) m (h .unicode)))
+
+  -- if the slots suffice; and the records are those
+  pub mluc-conforms : (rs : List Localized) → MultiLocalizedUnicodeType (tagOf p entry size) rs → length rs ≤ words / recordWords → stringOf p entry size words ≡ mluc (length rs)
+  unfolding Row
+  mluc-conforms rs h room = in-profile p entry size words l (by rs (h .some-record) (h .row)) ∙ mluc-accepted _ rs words (records-taken _ rs h) room
+    where
+      by : (rs : List Localized) → 1 ≤ length rs → Row (RecordLaid (tagOf p entry size)) 0 rs → 8 ≤ length (tagOf p entry size)
+      by [] m row = absurd (omega arith)
+      by (r ∷ rs) m row = omega (arith, row .0 .header-in-tag)
+
+pub mluc-records : (t : List ℕ) (rs : List Localized) → MultiLocalizedUnicodeType t rs → recordsIn t .records ≡ rs
+mluc-records t rs h = ap (λ (x : Ran). x .records) (records-read t rs (records-taken t rs h))
+
+-- what is accepted is taken, and lies in the profile
+pub record Accepted (p : List ℕ) (entry size : ℕ) (a : Answer) : Type 0 where
+  pub tag-in-profile : entry + countedSize size ≤ length p
+  pub laid : Taken (tagOf p entry size) a
+
+pub accepted : (p : List ℕ) (entry size words : ℕ) → Value (stringOf p entry size words) → Accepted p entry size (stringOf p entry size words)
+accepted p entry size words v =
+    let f = found p entry size words v in
+    record { tag-in-profile = f .tag-in-profile; laid = rw (f .as-tag) (taken (tagOf p entry size) words (f .long)) }

@@ -1,5 +1,9 @@
 pub mod Cutting
 pub mod Records
 pub mod Laws
+pub mod Unique
+pub mod Found
 pub mod Conforms
+pub mod Inside
+pub mod More
 pub mod Cases
