@@ -3,13 +3,13 @@
 -- Assumes nothing.
 use Prim.Native.Nat.{ℕ, zero, suc, _+_, _-_, _*_, _/_, _≤_, _<_}
 use native.Mathlib.Omega.{arith}
-use mathlib.Core.Path.{_≡_, refl, sym, ap, _∙_, subst}
+use mathlib.Core.Path.{_≡_, refl, sym, ap, _∙_}
 use mathlib.Core.Bool.{Bool, true, false, cond}
 use mathlib.Core.List.{List, [], _∷_}
 use mathlib.Core.Logic.{_⊎_, inl, inr}
 use lib.Dec.{ltb, eqb}
-use lib.ListN.{length, drop, length-take, length-drop}
-use borrow.Author.Tests.{eq-eqb, ne-eqb, le-ltb, ltb-true, ltb-false, eqb-true, eqb-false}
+use lib.ListN.{length}
+use borrow.Author.Tests.{ne-eqb, le-ltb, ltb-true, ltb-false, eqb-true}
 use Rattle.fields.specs.Bytes.{u32At}
 use Rattle.fields.specs.Place.{countedSize}
 use Rattle.fields.specs.Tag.{signatureOf}
@@ -18,8 +18,8 @@ use Rattle.fields.proofs.Choice.{each}
 use Rattle.text.specs.Answer.{Answer, text, desc, mluc, absent, refused, Span, span, nowhere, Unicode}
 use Rattle.text.specs.Cut.{byteOf, unitOf, keptOf, Cut}
 use Rattle.text.specs.Layout.{asciiCount, asciiEnd, unicodeLanguage, unicodeCount, unicodeStart, unicodeEnd, recordCount, headerEnd, stringEnd}
-use Rattle.text.specs.Mluc.{Localized, Seen, is, no, Fault, header, string, End, whole, stopped, Ran, first, localizedAt, recordAt, follow, recordsFrom, recordsAsked, recordsIn, recordWords}
-use Rattle.text.specs.Standard.{Ascii, TextType, UnicodeNot, UnicodeThere, TextDescriptionType, RecordLaid, Row, MultiLocalizedUnicodeType, TextTaken, AsciiTaken, unicodeRange, UnicodeTaken, UnicodeShort, DescriptionTaken, RecordTaken, RecordsTaken}
+use Rattle.text.specs.Mluc.{Localized, is, no, header, string, End, whole, stopped, Ran, first, localizedAt, recordAt, follow, recordsFrom, recordsAsked, recordsIn, recordWords}
+use Rattle.text.specs.Standard.{TextType, UnicodeNot, UnicodeThere, TextDescriptionType, RecordLaid, Row, MultiLocalizedUnicodeType, TextTaken, AsciiTaken, unicodeRange, UnicodeTaken, UnicodeShort, DescriptionTaken, RecordTaken, RecordsTaken}
 use Rattle.text.specs.Text.{textOf, unicodeOf, descOf, slottedOf, endedBy, mlucOf, byType, tagOf, stringOf}
 use Rattle.text.proofs.Cutting.{kept-cut, cut-kept}
 use Rattle.text.proofs.Found.{Value, in-profile, found}

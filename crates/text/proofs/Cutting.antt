@@ -85,6 +85,3 @@ module _ (unit : ℕ → ℕ) where
       by true e b' f = absurd (less n m (keptOf unit n) c (kept-cut n) (ltb-true m (keptOf unit n) e))
       by false e true f = absurd (less n (keptOf unit n) m (kept-cut n) c (ltb-true (keptOf unit n) m f))
       by false e false f = omega (arith, ltb-false m (keptOf unit n) e, ltb-false (keptOf unit n) m f)
-
-  pub kept-most : (n : ℕ) → keptOf unit n ≤ n
-  kept-most n = kept-cut n .within

@@ -1,9 +1,9 @@
 -- Demand 1 of text: each range that is answered lies inside the tag, and the tag inside the profile; and no more records are read than the
 -- tag has room for, whatever its count says.
 -- Assumes nothing.
-use Prim.Native.Nat.{ℕ, zero, suc, _+_, _*_, _/_, _≤_, _<_}
+use Prim.Native.Nat.{ℕ, zero, suc, _+_, _*_, _≤_, _<_}
 use native.Mathlib.Omega.{arith}
-use mathlib.Core.Path.{_≡_, refl, sym, ap, _∙_}
+use mathlib.Core.Path.{_≡_}
 use mathlib.Core.Bool.{Bool, true, false, cond}
 use mathlib.Core.List.{List, [], _∷_, _++_}
 use mathlib.Core.Logic.{_⊎_, inl, inr}
@@ -11,8 +11,8 @@ use lib.Dec.{eqb}
 use lib.ListN.{length, getD, drop}
 use Rattle.fields.specs.Place.{countedSize}
 use Rattle.text.specs.Answer.{Answer, text, desc, mluc, absent, refused, Span, span, nowhere, Unicode, leftBy}
-use Rattle.text.specs.Layout.{asciiEnd, unicodeCount, unicodeStart, stringLength}
-use Rattle.text.specs.Mluc.{Localized, even, localizedAt, recordsFrom, recordsAsked, recordsIn, recordWords, wordsIn}
+use Rattle.text.specs.Layout.{asciiEnd, unicodeCount, unicodeStart}
+use Rattle.text.specs.Mluc.{Localized, even, recordsFrom, recordsAsked, recordsIn, recordWords, wordsIn}
 use Rattle.text.specs.Standard.{Row, UnicodeTaken, UnicodeShort, RecordTaken}
 use Rattle.text.specs.Text.{tagOf, stringOf}
 use Rattle.text.proofs.Conforms.{Taken, read-row, accepted}

@@ -3,7 +3,7 @@
 -- Assumes nothing.
 use Prim.Native.Nat.{ℕ, _+_, _/_, _≤_}
 use native.Mathlib.Omega.{arith}
-use mathlib.Core.Path.{_≡_, refl, sym, ap, _∙_, subst}
+use mathlib.Core.Path.{_≡_, refl, sym, _∙_, subst}
 use mathlib.Core.List.{List, _++_}
 use mathlib.Core.Logic.{inl, inr}
 use lib.Dec.{ltb, eqb}
@@ -12,10 +12,10 @@ use borrow.Author.Tests.{ltb-false, le-ltb}
 use Rattle.fields.specs.Bytes.{u32At}
 use Rattle.fields.specs.Place.{countedSize}
 use Rattle.fields.specs.Tag.{signatureOf}
-use Rattle.fields.specs.declared.Kind.the-variants.{Text, Desc, Mluc}
+use Rattle.fields.specs.declared.Kind.the-variants.{Text, Mluc}
 use Rattle.fields.proofs.Append.{longer, part-append}
 use Rattle.fields.proofs.Grow.{Grows, choose, passes}
-use Rattle.text.specs.Answer.{Answer, absent, refused}
+use Rattle.text.specs.Answer.{Answer, refused}
 use Rattle.text.specs.Mluc.{End, whole, stopped, recordsAsked, recordsIn, recordWords, wordsIn}
 use Rattle.text.specs.Text.{slottedOf, endedBy, mlucOf, byType, tagOf, stringOf}
 use Rattle.text.proofs.Found.{Value, found}

@@ -7,16 +7,16 @@ use mathlib.Core.Path.{_≡_, refl, sym, ap, _∙_}
 use mathlib.Core.Bool.{Bool, true, false, cond}
 use mathlib.Core.List.{List, [], _∷_, _++_}
 use lib.Dec.{ltb}
-use lib.ListN.{length, drop, length-append}
+use lib.ListN.{length, drop}
 use lib.Seq.{sets, sets-eq, length-sets}
 use types.Run.{OneOf}
 use denote.Enum.Declared.{tagOf as placeIn}
 use borrow.Author.Tests.{eq-eqb, ne-eqb, lt-ltb, le-ltb, ltb-false}
 use Rattle.fields.specs.Bytes.{u16At, u32At}
 use Rattle.fields.proofs.Stores.{sets-append}
-use Rattle.text.specs.Items.{recordFrom, faultFrom, seenFrom, endFrom}
+use Rattle.text.specs.Items.{recordFrom, faultFrom, seenFrom}
 use Rattle.text.specs.Layout.{headerEnd, stringEnd}
-use Rattle.text.specs.Mluc.{Localized, Fault, header, string, Seen, is, no, End, whole, stopped, Ran, stops, first, even, localizedAt, recordAt, follow, recordsFrom, recordsAsked, recordWords, wordsOf, wordsIn}
+use Rattle.text.specs.Mluc.{Localized, Fault, header, string, Seen, is, no, whole, stopped, Ran, stops, first, even, localizedAt, recordAt, follow, recordsFrom, recordsAsked, recordWords, wordsOf, wordsIn}
 use Rattle.text.specs.declared.mluc.Fault.{Fault as CodeFault}
 use Rattle.text.specs.declared.mluc.Item.{Item}
 use Rattle.text.specs.declared.mluc.TextRecord.{TextRecord}

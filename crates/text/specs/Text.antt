@@ -10,7 +10,7 @@ use Rattle.fields.specs.House.{tagSize}
 use Rattle.fields.specs.Place.{tagAt, countedSize}
 use Rattle.fields.specs.Tag.{signatureOf}
 use Rattle.fields.specs.declared.Kind.the-variants.{Text, Desc, Mluc}
-use Rattle.text.specs.Answer.{Answer, text, desc, mluc, absent, refused, Span, span, nowhere, Unicode, paper, leftBy}
+use Rattle.text.specs.Answer.{Answer, text, desc, mluc, absent, refused, span, nowhere, Unicode, paper, leftBy}
 use Rattle.text.specs.Cut.{byteOf, unitOf, keptOf}
 use Rattle.text.specs.Layout.{textStart, asciiStart, asciiCount, asciiEnd, unicodeLanguage, unicodeCount, unicodeStart, unicodeEnd}
 use Rattle.text.specs.Mluc.{Fault, header, string, End, whole, stopped, recordsAsked, recordsIn, recordWords, wordsIn}

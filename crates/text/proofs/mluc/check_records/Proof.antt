@@ -1,7 +1,7 @@
 -- `text::mluc::check_records` meets its contract: what is left to judge ends as the whole does. Its measure is at most the tag's length,
 -- whatever number of records is asked for.
 -- Assumes nothing.
-use Prim.Native.Nat.{_+_, _-_, _*_, _≤_}
+use Prim.Native.Nat.{_-_, _*_, _≤_}
 use native.Mathlib.Omega.{arith}
 use mathlib.Core.Path.{_≡_}
 use lib.ListN.{length}

@@ -1,6 +1,6 @@
 -- `text::mluc::write_records` meets its contract: what is left to write makes of the slots what all records make of them.
 -- Assumes nothing.
-use Prim.Native.Nat.{_+_, _-_, _*_}
+use Prim.Native.Nat.{_-_, _*_}
 use lib.ListN.{length}
 use borrow.Author.Needs.{needs}
 use Rattle.text.proofs.Records.{fewer, Writing, write-begins, write-turns, write-never, write-ends}
