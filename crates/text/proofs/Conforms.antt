@@ -9,7 +9,7 @@ use mathlib.Core.List.{List, [], _∷_}
 use mathlib.Core.Logic.{_⊎_, inl, inr}
 use lib.Dec.{ltb, eqb}
 use lib.ListN.{length}
-use borrow.Author.Tests.{ne-eqb, le-ltb, ltb-true, ltb-false, eqb-true}
+use borrow.Author.Tests.{ne-eqb, lt-ltb, le-ltb, ltb-true, ltb-false, eqb-true}
 use Rattle.fields.specs.Bytes.{u32At}
 use Rattle.fields.specs.Place.{countedSize}
 use Rattle.fields.specs.Tag.{signatureOf}
@@ -74,15 +74,11 @@ records-taken t rs h =
     row-taken k [] h = tt
     row-taken k (r ∷ rs) (l, rest) = (record { is = one k r l; header-in-tag = l .header-in-tag; string-in-tag = l .string-in-tag }, row-taken (k + 1) rs rest)
 
--- ---- what is taken is accepted
+-- ---- what is taken is accepted, of `mluc` if the slots suffice
 
-text-accepted : (t : List ℕ) (s : Span) (words : ℕ) → TextTaken t s → byType t words ≡ text s
+pub text-accepted : (t : List ℕ) (s : Span) (words : ℕ) → TextTaken t s → byType t words ≡ text s
 unfolding textOf
 text-accepted t s words h = as-text t words (h .signature) ∙ rw (cut-kept (byteOf t 8) (length t - 8) (s .bytes) (h .string), ← h .start-is)
-
-desc-accepted : (t : List ℕ) (s : Span) (u : Unicode) (words : ℕ) → AsciiTaken t s → unicodeOf t (asciiEnd t) ≡ u → byType t words ≡ desc s u
-unfolding descOf
-desc-accepted t s u words h e = as-desc t words (h .signature) ∙ rw (le-ltb (length t) 12 (h .counted), le-ltb (length t) (asciiEnd t) (h .whole), cut-kept (byteOf t 12) (asciiCount t) (s .bytes) (h .string), e, ← h .start-is)
 
 unicode-accepted : (t : List ℕ) (at : ℕ) (n : ℕ) → unicodeEnd t at ≤ length t → Cut (unitOf t (unicodeStart at)) (unicodeCount t at) n → unicodeOf t at ≡ record { language = unicodeLanguage t at; string = unicodeRange t at n }
 unfolding unicodeOf
@@ -91,6 +87,17 @@ unicode-accepted t at n l c = rw (le-ltb (length t) (unicodeEnd t at) l, cut-kep
     by : (b : Bool) → _≡_ {A = Unicode} (cond b record { language = unicodeLanguage t at; string = nowhere } record { language = unicodeLanguage t at; string = span (unicodeStart at) (2 * n) }) record { language = unicodeLanguage t at; string = cond b nowhere (span (unicodeStart at) (2 * n)) }
     by true = refl
     by false = refl
+
+unicode-read : (t : List ℕ) (at : ℕ) (u : Unicode) → UnicodeTaken t at u ⊎ UnicodeShort t at u → unicodeOf t at ≡ u
+unfolding unicodeOf
+unicode-read t at u (inl h) = unicode-accepted t at (h .units) (h .whole) (h .string) ∙ sym (h .answer-is)
+unicode-read t at u (inr h) = rw (lt-ltb (length t) (unicodeEnd t at) (h .short)) (sym (h .answer-is))
+
+pub desc-accepted : (t : List ℕ) (s : Span) (u : Unicode) (words : ℕ) → DescriptionTaken t s u → byType t words ≡ desc s u
+unfolding descOf
+desc-accepted t s u words h =
+    let a = h .ascii in
+    as-desc t words (a .signature) ∙ rw (le-ltb (length t) 12 (a .counted), le-ltb (length t) (asciiEnd t) (a .whole), cut-kept (byteOf t 12) (asciiCount t) (s .bytes) (a .string), unicode-read t (asciiEnd t) u (h .unicode), ← a .start-is)
 
 -- records that are taken are read
 row-read : (t : List ℕ) (k : ℕ) (rs : List Localized) → Row (RecordTaken t) k rs → recordsFrom t k (length rs) ≡ record { records = rs; end = whole }
@@ -102,7 +109,7 @@ records-read : (t : List ℕ) (rs : List Localized) → RecordsTaken t rs → re
 unfolding recordsIn
 records-read t rs h = rw (h .count) (row-read t 0 rs (h .row))
 
-mluc-accepted : (t : List ℕ) (rs : List Localized) (words : ℕ) → RecordsTaken t rs → length rs ≤ words / recordWords → byType t words ≡ mluc (length rs)
+pub mluc-accepted : (t : List ℕ) (rs : List Localized) (words : ℕ) → RecordsTaken t rs → length rs ≤ words / recordWords → byType t words ≡ mluc (length rs)
 unfolding mlucOf slottedOf
 mluc-accepted t rs words h l = as-mluc t words (h .signature) ∙ rw (records-read t rs h, h .count, le-ltb (words / recordWords) (length rs) l)
 
@@ -180,7 +187,10 @@ module _ (p : List ℕ) (entry size : ℕ) (l : entry + countedSize size ≤ len
   desc-conforms n m h =
       let t : List ℕ = tagOf p entry size in
       in-profile p entry size words l (omega (arith, h .whole))
-      ∙ desc-accepted t (span 12 n) _ words (ascii-taken t n m h) (unicode-accepted t (asciiEnd t) m (omega (arith, h .whole)) (unicode-cut t (asciiEnd t) m (h .unicode)))
+      ∙ desc-accepted t (span 12 n) _ words record {
+        ascii = ascii-taken t n m h;
+        unicode = inl record { units = m; whole = omega (arith, h .whole); string = unicode-cut t (asciiEnd t) m (h .unicode); answer-is = refl };
+      }
 
   -- if the slots suffice; and the records are those
   pub mluc-conforms : (rs : List Localized) → MultiLocalizedUnicodeType (tagOf p entry size) rs → length rs ≤ words / recordWords → stringOf p entry size words ≡ mluc (length rs)

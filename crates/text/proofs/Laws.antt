@@ -1,7 +1,7 @@
 -- The reader of text, case by case, as the code meets it: each law takes what the tests and the calls on the way told, and gives what
 -- is answered, and what is left of the slots.
 -- Assumes nothing.
-use Prim.Native.Nat.{ℕ, _+_, _-_, _*_, _/_, _^_, _≤_, _<_}
+use Prim.Native.Nat.{ℕ, _+_, _-_, _*_, _/_, _≤_, _<_}
 use native.Mathlib.Omega.{arith}
 use mathlib.Core.Path.{_≡_, refl, sym, ap, _∙_}
 use mathlib.Core.List.{List, [], _∷_, _++_}
@@ -20,7 +20,7 @@ use Rattle.fields.specs.declared.Place.the-variants.{In, Past}
 use Rattle.fields.specs.declared.Refusal.{Refusal}
 use Rattle.fields.proofs.Choice.{each}
 use Rattle.fields.proofs.Kind as kinds
-use Rattle.fields.proofs.Located.{inside, past, part-is, part-length}
+use Rattle.fields.proofs.Located.{inside, past, part-is}
 use Rattle.fields.proofs.Signatures.{arm, unlike, others}
 use Rattle.text.specs.Answer.{Answer, text, desc, mluc, absent, refused, span, spanFrom, unicodeFrom, paper, leftBy}
 use Rattle.text.specs.Cut.{byteOf, unitOf, keptOf}
@@ -212,11 +212,3 @@ module _ (p s : List ℕ) (entry size end : ℕ) (n : end ≡ countedSize size) 
           same _ s r _ _ s' (rw (← n, le-ltb _ _ l, le-ltb _ _ (i .fits), le-ltb _ _ m, n)) (rw same-tag at g)
 
 pub ruleset string-laws = (string-small, string-past, string-short, string-kind)
-
--- a tag has as many bytes as its size says
-module _ (p : List ℕ) (entry end from to : ℕ) (place : Place) (h : place ≡ placeOf (length p) entry end) (e : place ≡ In from to) where
-  pub tag-long : 8 ≤ end → 8 ≤ length (take (to - from) (drop from p))
-  tag-long l = omega (arith, part-length (length p) entry end h e p refl)
-
-  pub tag-short : end < 2 ^ 32 → length (take (to - from) (drop from p)) < 2 ^ 32
-  tag-short l = omega (arith, part-length (length p) entry end h e p refl)

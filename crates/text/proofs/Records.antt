@@ -42,6 +42,9 @@ pub ruleset record-laws = (record-header, record-string, record-there)
 
 -- ---- a turn
 
+one-less : (n k : ℕ) → k < n → n - k ≡ suc (n - (k + 1))
+one-less n k l = omega arith
+
 pub records-turn : (t : List ℕ) (k n : ℕ) (r : Localized) → recordAt t k ≡ is r → recordsFrom t k (suc n) ≡ first r (recordsFrom t (k + 1) n)
 unfolding recordsFrom
 records-turn t k n r e = rw e
@@ -74,15 +77,12 @@ module _ (t : List ℕ) (n k : ℕ) (left : recordsFrom t 0 n .end ≡ recordsFr
   judge-ends l = let z : n - k ≡ 0 = omega arith in sym (left ∙ rw z)
 
   module _ (l : k < n) (got : Item) (h : seenFrom got ≡ recordAt t k) where
-    one-less : n - k ≡ suc (n - (k + 1))
-    one-less = omega arith
-
     pub judge-turns : (r : TextRecord) → got ≡ Item.Record r → recordsFrom t 0 n .end ≡ recordsFrom t (k + 1) (n - (k + 1)) .end
     judge-turns r e =
-        left ∙ ap (λ (i : ℕ). recordsFrom t k i .end) one-less ∙ ap (λ (x : Ran). x .end) (records-turn t k (n - (k + 1)) (recordFrom r) (sym h ∙ ap seenFrom e))
+        left ∙ ap (λ (i : ℕ). recordsFrom t k i .end) (one-less n k l) ∙ ap (λ (x : Ran). x .end) (records-turn t k (n - (k + 1)) (recordFrom r) (sym h ∙ ap seenFrom e))
 
     pub judge-stops : (why : CodeFault) → got ≡ Item.No why → stopped (faultFrom why) ≡ recordsFrom t 0 n .end
-    judge-stops why e = sym (left ∙ ap (λ (i : ℕ). recordsFrom t k i .end) one-less ∙ ap (λ (x : Ran). x .end) (records-stop t k (n - (k + 1)) (faultFrom why) (sym h ∙ ap seenFrom e)))
+    judge-stops why e = sym (left ∙ ap (λ (i : ℕ). recordsFrom t k i .end) (one-less n k l) ∙ ap (λ (x : Ran). x .end) (records-stop t k (n - (k + 1)) (faultFrom why) (sym h ∙ ap seenFrom e)))
 
 -- ---- how many are asked for
 
@@ -131,8 +131,7 @@ module _ (t : List ℕ) (n : ℕ) (s₀ : List ℕ) where
     write-turns r s' e p =
         let ws : List ℕ = wordsOf (recordFrom r) in
         let rest : Ran = recordsFrom t (k + 1) (n - (k + 1)) in
-        let less : n - k ≡ suc (n - (k + 1)) = omega arith in
-        let turn : recordsFrom t k (n - k) ≡ first (recordFrom r) rest = ap (recordsFrom t k) less ∙ records-turn t k (n - (k + 1)) (recordFrom r) (sym h ∙ ap seenFrom e) in
+        let turn : recordsFrom t k (n - k) ≡ first (recordFrom r) rest = ap (recordsFrom t k) (one-less n k l) ∙ records-turn t k (n - (k + 1)) (recordFrom r) (sym h ∙ ap seenFrom e) in
         let next : (k + 1) * recordWords ≡ k * recordWords + length ws = omega arith in
         let all : wordsIn (recordsFrom t k (n - k) .records) ≡ ws ++ wordsIn (rest .records) = ap (λ (x : Ran). wordsIn (x .records)) turn in
         record {
@@ -150,8 +149,7 @@ module _ (t : List ℕ) (n : ℕ) (s₀ : List ℕ) where
         by : (x : Item) → got ≡ x → OneOf (1 ∷ []) (placeIn items.the-type x) → ⊥
         by (Item.Record r) e z = omega (arith, z)
         by (Item.No why) e z =
-            let less : n - k ≡ suc (n - (k + 1)) = omega arith in
-            let g : recordsFrom t k (suc (n - (k + 1))) .end ≡ whole = rw less at (w .good) in
+            let g : recordsFrom t k (suc (n - (k + 1))) .end ≡ whole = rw (one-less n k l) at (w .good) in
             let f = rw (sym h ∙ ap seenFrom e) at g in
             let y : _≡_ {A = ℕ} 0 1 = cc in omega arith
 
