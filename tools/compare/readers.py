@@ -11,7 +11,7 @@ stored()                       the hand-picked cases: pairs of a comment and a j
 from_tag(profile, start, size) the jobs to make of a real profile's tag; none if its type is not this family's
 """
 
-from compare import curve, lut
+from compare import curve, lut, text
 
-FAMILIES = {"curve": curve, "lut": lut}
+FAMILIES = {"curve": curve, "lut": lut, "text": text}
 FAMILY_OF_READER = {reader: family for family in FAMILIES.values() for reader in family.READERS}

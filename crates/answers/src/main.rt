@@ -2,6 +2,7 @@
 // readers are compared with the Rust's. A job that is cut short, names no reader or passes a bound ends the program.
 mod curves;
 mod tables;
+mod texts;
 mod told;
 
 use curve::Walk;
@@ -14,6 +15,7 @@ fn answer_job(profile: &[u8], job: StreamJob, words: &mut [u32], line: &mut [u8]
     match reader {
         1 => tables::answer(profile, job, Walk::Crate, words, line),
         2 => curves::answer(profile, job, Walk::Crate, line),
+        3 => texts::answer(profile, job, words, line),
         11 => tables::answer(profile, job, Walk::Book, words, line),
         12 => curves::answer(profile, job, Walk::Book, line),
         _ => 0,

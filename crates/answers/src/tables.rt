@@ -9,20 +9,7 @@ use lut::Lut;
 use lut::LutAnswer;
 use mft::MftTable;
 
-// Word i is 0xA5A50000 + i before the call.
-fn mark(words: &mut [u32]) {
-    let mut i = 0;
-    while i < words.len() {
-        words[i] = 0xA5A5_0000 + (i % 0x1_0000) as u32;
-        i += 1;
-    }
-}
-
 fn wide8(x: u8) -> u64 {
-    x as u64
-}
-
-fn wide32(x: u32) -> u64 {
     x as u64
 }
 
@@ -31,16 +18,6 @@ fn put_bytes(line: &mut [u8], at: usize, bytes: &[u8]) -> usize {
     let mut i = 0;
     while i < bytes.len() {
         end = lines::put_number(line, end, b' ', wide8(bytes[i]));
-        i += 1;
-    }
-    end
-}
-
-fn put_lent(line: &mut [u8], at: usize, words: &[u32]) -> usize {
-    let mut end = at;
-    let mut i = 0;
-    while i < words.len() {
-        end = lines::put_number(line, end, b' ', wide32(words[i]));
         i += 1;
     }
     end
@@ -148,7 +125,7 @@ pub(crate) fn answer(
     words: &mut [u32],
     line: &mut [u8],
 ) -> usize {
-    mark(words);
+    told::mark(words);
     let got = lut::read_lut_tag(
         profile,
         Entry(job.offset),
@@ -159,7 +136,5 @@ pub(crate) fn answer(
         words,
     );
     let said = put_answer(line, got);
-    let bar = lines::put(line, said, b" |");
-    let end = put_lent(line, bar, words);
-    lines::put(line, end, b"\n")
+    told::end_with_lent(line, said, words)
 }

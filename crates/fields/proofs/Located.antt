@@ -6,7 +6,7 @@ use native.Mathlib.Nat.{add-sub-cancel-left}
 use mathlib.Core.Path.{_≡_, refl, sym, _∙_}
 use mathlib.Core.Bool.{Bool, true, false, cond}
 use mathlib.Core.List.{List}
-use lib.ListN.{length, take, drop, length-drop}
+use lib.ListN.{length, take, drop, length-take, length-drop}
 use lib.Seq.{take-all}
 use lib.Dec.{leb}
 use borrow.Author.Tests.{leb-true, leb-false, le-leb, lt-leb}
@@ -59,3 +59,13 @@ module _ (n entry end : ℕ) {from to : ℕ} {r : Place} (h : r ≡ placeOf n en
 
   pub ends : to ≤ n
   ends = let w = inside n entry end h e in omega arith
+
+  -- a part of the profile has the bytes that were asked for, so bounds on their number are bounds on its length
+  part-length : (p : List ℕ) → length p ≡ n → length (take (to - from) (drop from p)) ≡ end
+  part-length p l = let w = inside n entry end h e in omega (arith, length-take (to - from) (drop from p), length-drop from p)
+
+  pub part-least : (p : List ℕ) → length p ≡ n → (k : ℕ) → k ≤ end → k ≤ length (take (to - from) (drop from p))
+  part-least p l k m = omega (arith, part-length p l)
+
+  pub part-below : (p : List ℕ) → length p ≡ n → (k : ℕ) → end < k → length (take (to - from) (drop from p)) < k
+  part-below p l k m = omega (arith, part-length p l)

@@ -1,11 +1,11 @@
--- `answers::tables::mark` is safe and ends: each turn leaves fewer words.
+-- `answers::told::mark` is safe and ends: each turn leaves fewer words.
 -- Assumes nothing.
 use Prim.Native.Nat.{_-_}
 use mathlib.Core.Path.{_≡_}
 use lib.ListN.{length}
 use borrow.Author.Needs.{needs}
-use Rattle.answers.proofs.tables.mark.Statement.{statement}
-use Rattle.answers.proofs.tables.mark.Tie as tie
+use Rattle.answers.proofs.told.mark.Statement.{statement}
+use Rattle.answers.proofs.told.mark.Tie as tie
 
 abbrev Inv-loop : tie.InvT-loop
 Inv-loop words₀ i₀ words i = length words ≡ length words₀

@@ -1,11 +1,11 @@
--- `answers::tables::put_lent` is safe and ends: each turn leaves fewer.
+-- `answers::told::put_lent` is safe and ends: each turn leaves fewer.
 -- Assumes nothing.
 use Prim.Native.Nat.{_-_}
 use mathlib.Core.Path.{_≡_}
 use lib.ListN.{length}
 use borrow.Author.Needs.{needs}
-use Rattle.answers.proofs.tables.put_lent.Statement.{statement}
-use Rattle.answers.proofs.tables.put_lent.Tie as tie
+use Rattle.answers.proofs.told.put_lent.Statement.{statement}
+use Rattle.answers.proofs.told.put_lent.Tie as tie
 
 abbrev Inv-loop : tie.InvT-loop
 Inv-loop line₀ at words end₀ i₀ line end i = length line ≡ length line₀

@@ -1,0 +1,49 @@
+// Reader 3: text, with the lent words behind each answer.
+use crate::told;
+use fields::Entry;
+use jobs::StreamJob;
+use text::Description;
+use text::Range;
+use text::TextAnswer;
+
+fn put_range(line: &mut [u8], at: usize, r: Range) -> usize {
+    let first = r.start;
+    let start = lines::put_number(line, at, b' ', first.0);
+    lines::put_number(line, start, b' ', r.length as u64)
+}
+
+fn put_text(line: &mut [u8], r: Range) -> usize {
+    let word = lines::put(line, 0, b"value text");
+    put_range(line, word, r)
+}
+
+fn put_description(line: &mut [u8], d: Description) -> usize {
+    let word = lines::put(line, 0, b"value desc");
+    let ascii = d.ascii;
+    let unicode = d.unicode;
+    let first = put_range(line, word, ascii);
+    let language = lines::put_number(line, first, b' ', d.language as u64);
+    put_range(line, language, unicode)
+}
+
+fn put_records(line: &mut [u8], records: u32) -> usize {
+    let word = lines::put(line, 0, b"value mluc");
+    lines::put_number(line, word, b' ', records as u64)
+}
+
+fn put_answer(line: &mut [u8], got: TextAnswer) -> usize {
+    match got {
+        TextAnswer::Text(r) => put_text(line, r),
+        TextAnswer::Desc(d) => put_description(line, d),
+        TextAnswer::Mluc { records } => put_records(line, records),
+        TextAnswer::Absent => lines::put(line, 0, b"absent"),
+        TextAnswer::Refused(why) => told::put_refused(line, why),
+    }
+}
+
+pub(crate) fn answer(profile: &[u8], job: StreamJob, words: &mut [u32], line: &mut [u8]) -> usize {
+    told::mark(words);
+    let got = text::read_string_tag(profile, Entry(job.offset), job.size, words);
+    let said = put_answer(line, got);
+    told::end_with_lent(line, said, words)
+}

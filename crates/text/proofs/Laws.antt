@@ -1,0 +1,214 @@
+-- The reader of text, case by case, as the code meets it: each law takes what the tests and the calls on the way told, and gives what
+-- is answered, and what is left of the slots.
+-- Assumes nothing.
+use Prim.Native.Nat.{ℕ, _+_, _-_, _*_, _/_, _≤_, _<_}
+use native.Mathlib.Omega.{arith}
+use mathlib.Core.Path.{_≡_, refl, sym, ap, _∙_}
+use mathlib.Core.List.{List, [], _∷_, _++_}
+use lib.Dec.{ltb}
+use lib.ListN.{length, take, drop}
+use types.Run.{OneOf}
+use denote.Enum.Declared.{tagOf as placeIn}
+use borrow.Author.Tests.{eq-eqb, ne-eqb, lt-ltb, le-ltb}
+use Rattle.fields.specs.Bytes.{u32At}
+use Rattle.fields.specs.Place.{placeOf, countedSize}
+use Rattle.fields.specs.Tag.{signatureOf, kindOf}
+use Rattle.fields.specs.declared.Kind.{Kind}
+use Rattle.fields.specs.declared.Kind.the-variants.{Text, Desc, Mluc}
+use Rattle.fields.specs.declared.Place.{Place}
+use Rattle.fields.specs.declared.Place.the-variants.{In, Past}
+use Rattle.fields.specs.declared.Refusal.{Refusal}
+use Rattle.fields.proofs.Choice.{each}
+use Rattle.fields.proofs.Kind as kinds
+use Rattle.fields.proofs.Located.{inside, past, part-is}
+use Rattle.fields.proofs.Signatures.{arm, unlike, others}
+use Rattle.text.specs.Answer.{Answer, text, desc, mluc, absent, refused, span, spanFrom, unicodeFrom, paper, leftBy}
+use Rattle.text.specs.Cut.{byteOf, unitOf, keptOf}
+use Rattle.text.specs.Items.{faultFrom, endFrom}
+use Rattle.text.specs.Layout.{asciiEnd}
+use Rattle.text.specs.Mluc.{whole, recordsFrom, recordsAsked, recordsIn, recordWords, wordsIn}
+use Rattle.text.specs.Text.{Said, textOf, unicodeOf, descOf, faulty, slottedOf, mlucOf, byType, tagOf, stringOf}
+use Rattle.text.specs.declared.Description.{Description}
+use Rattle.text.specs.declared.TextAnswer.{TextAnswer}
+use Rattle.text.specs.declared.mluc.Fault.{Fault as CodeFault}
+use Rattle.text.specs.declared.mluc.Verdict.{Verdict}
+use Rattle.text.proofs.Records.{words-length, whole-count}
+
+-- ---- `text`
+
+pub text-value : (t : List ℕ) (kept : ℕ) → kept ≡ keptOf (byteOf t 8) (length t - 8) → text (span 8 kept) ≡ textOf t
+unfolding textOf
+text-value t kept e = rw e
+
+-- ---- `desc`
+
+module _ (t : List ℕ) (at n : ℕ) (h : n ≡ u32At t (at + 4)) where
+  pub unicode-past : (d : Description) → length t < at + 8 + 2 * n → d .language ≡ 0 → d .unicode .start .0 ≡ 0 → d .unicode .length ≡ 0 → unicodeFrom d ≡ unicodeOf t at
+  unfolding unicodeOf
+  unicode-past d l e₁ e₂ e₃ = simp (← h, lt-ltb _ _ l, e₁, e₂, e₃)
+
+  module _ (l : at + 8 + 2 * n ≤ length t) (language : ℕ) (e : language ≡ u32At t at) where
+    pub unicode-none : (d : Description) → n ≡ 0 → d .language ≡ language → d .unicode .start .0 ≡ 0 → d .unicode .length ≡ 0 → unicodeFrom d ≡ unicodeOf t at
+    unfolding unicodeOf
+    unicode-none d z e₁ e₂ e₃ = simp (← h, le-ltb _ _ l, eq-eqb _ _ z, e₁, e₂, e₃, e)
+
+    pub unicode-there : (kept : ℕ) → (n ≡ 0 → ⊥) → kept ≡ keptOf (unitOf t (at + 8)) n → record { language = language; string = span (at + 8) (2 * kept) } ≡ unicodeOf t at
+    unfolding unicodeOf
+    unicode-there kept z k = simp (← h, le-ltb _ _ l, ne-eqb _ _ z, k, e)
+
+pub ruleset unicode-laws = (unicode-past, unicode-none, unicode-there)
+
+pub desc-short : (t : List ℕ) → length t < 12 → refused 2 ≡ descOf t
+unfolding descOf
+desc-short t l = rw (lt-ltb _ _ l)
+
+module _ (t : List ℕ) (l : 12 ≤ length t) (n : ℕ) (h : n ≡ u32At t 8) where
+  pub desc-past : length t < 12 + n → refused 2 ≡ descOf t
+  unfolding descOf
+  desc-past m = simp (le-ltb _ _ l, ← h, lt-ltb _ _ m)
+
+  pub desc-value : (kept : ℕ) (d : Description) → 12 + n ≤ length t → kept ≡ keptOf (byteOf t 12) n → d .ascii ≡ record { start = record { 0 = 12 }; length = kept } → unicodeFrom d ≡ unicodeOf t (12 + n) → desc (spanFrom (d .ascii)) (unicodeFrom d) ≡ descOf t
+  unfolding descOf
+  desc-value kept d m k a u = simp (le-ltb _ _ l, ← h, le-ltb _ _ m, a, k, u)
+
+pub ruleset desc-laws = (desc-short, desc-past, desc-value)
+
+-- ---- what is answered, and what is left
+
+module _ (t s : List ℕ) (r : TextAnswer) where
+  -- an answer without records leaves the slots as they were
+  leaving : (a b : Answer) → ((ws : List ℕ) → leftBy b ws s ≡ s) → a ≡ b → paper r ≡ b → Said t a r s s
+  leaving a b q e h = record { answer-is = h ∙ sym e; left-is = rw e (sym (q _)) }
+
+  -- a meaning that comes to another
+  same : (a b : Answer) (u : List ℕ) → a ≡ b → Said t b r s u → Said t a r s u
+  same a b u e h = rw e h
+
+-- ---- `mluc`
+
+pub fault-header : (why : CodeFault) → why ≡ CodeFault.Header → refused 2 ≡ faulty (faultFrom why)
+fault-header why e = rw e
+
+-- a fault leaves the slots as they were
+fault-leaves : (s : List ℕ) (why : CodeFault) (ws : List ℕ) → leftBy (faulty (faultFrom why)) ws s ≡ s
+fault-leaves s CodeFault.Header ws = refl
+fault-leaves s CodeFault.String ws = refl
+
+module _ (t s : List ℕ) (n : ℕ) where
+  pub slots-few : length s / recordWords < n → Said t (slottedOf n (length s)) (TextAnswer.Refused Refusal.TooFewSlots) s s
+  unfolding slottedOf
+  slots-few l = leaving t s _ _ (refused 14) (λ ws. refl) (rw (lt-ltb _ _ l)) refl
+
+  pub slots-enough : n ≤ length s / recordWords → n ≡ recordsAsked t → recordsFrom t 0 n .end ≡ whole → (s' : List ℕ) → s' ≡ wordsIn (recordsFrom t 0 n .records) ++ drop (n * recordWords) s → Said t (slottedOf n (length s)) (TextAnswer.Mluc n) s s'
+  unfolding slottedOf recordsIn
+  slots-enough l e g s' h =
+      let enough : slottedOf n (length s) ≡ mluc n = rw (le-ltb _ _ l) in
+      let all : List ℕ = wordsIn (recordsFrom t 0 n .records) in
+      let long : length all ≡ n * recordWords = words-length (recordsFrom t 0 n .records) ∙ ap (λ (i : ℕ). i * recordWords) (whole-count t 0 n g) in
+      record { answer-is = sym enough; left-is = rw (enough, ← e, long) h }
+
+module _ (t s : List ℕ) (n : ℕ) (e : n ≡ recordsAsked t) (v : Verdict) (j : endFrom v ≡ recordsFrom t 0 n .end) where
+  pub judged-whole : v ≡ Verdict.Whole → recordsFrom t 0 n .end ≡ whole
+  judged-whole w = sym j ∙ ap endFrom w
+
+  ends-so : recordsIn t .end ≡ endFrom v
+  unfolding recordsIn
+  ends-so = rw (← e) (sym j)
+
+  pub mluc-whole : (r : TextAnswer) (s' : List ℕ) → v ≡ Verdict.Whole → Said t (slottedOf n (length s)) r s s' → Said t (mlucOf t (length s)) r s s'
+  unfolding mlucOf
+  mluc-whole r s' w h = same t s r _ _ s' (rw (ends-so, w, ← e)) h
+
+  pub mluc-stopped : (r : TextAnswer) (why : CodeFault) → v ≡ Verdict.Stopped why → paper r ≡ faulty (faultFrom why) → Said t (mlucOf t (length s)) r s s
+  unfolding mlucOf
+  mluc-stopped r why w h = leaving t s r _ _ (fault-leaves s why) (rw (ends-so, w)) h
+
+-- ---- the type
+
+text-leaves : (t s ws : List ℕ) → leftBy (textOf t) ws s ≡ s
+unfolding textOf
+text-leaves t s ws = refl
+
+desc-leaves : (t s ws : List ℕ) → leftBy (descOf t) ws s ≡ s
+unfolding descOf
+desc-leaves t s ws =
+    let P : Answer → Type 0 = λ a. leftBy a ws s ≡ s in
+    each P (ltb (length t) 12) _ _ (λ _. refl) (λ _. each P (ltb (length t) (asciiEnd t)) _ _ (λ _. refl) (λ _. refl))
+
+mluc-text : signatureOf Mluc ≡ signatureOf Text → ⊥
+unfolding signatureOf
+mluc-text e = omega arith
+
+desc-text : signatureOf Desc ≡ signatureOf Text → ⊥
+unfolding signatureOf
+desc-text e = omega arith
+
+desc-mluc : signatureOf Desc ≡ signatureOf Mluc → ⊥
+unfolding signatureOf
+desc-mluc e = omega arith
+
+-- a tag of a type is read as that type
+module _ (t : List ℕ) (words : ℕ) where
+  pub as-text : u32At t 0 ≡ signatureOf Text → byType t words ≡ textOf t
+  unfolding byType
+  as-text i = rw (eq-eqb _ _ i)
+
+  pub as-mluc : u32At t 0 ≡ signatureOf Mluc → byType t words ≡ mlucOf t words
+  unfolding byType
+  as-mluc i =
+      let n : u32At t 0 ≡ signatureOf Text → ⊥ = λ m. mluc-text (sym i ∙ m) in
+      rw (ne-eqb _ _ n, eq-eqb _ _ i)
+
+  pub as-desc : u32At t 0 ≡ signatureOf Desc → byType t words ≡ descOf t
+  unfolding byType
+  as-desc i =
+      let n : u32At t 0 ≡ signatureOf Text → ⊥ = λ m. desc-text (sym i ∙ m) in
+      let o : u32At t 0 ≡ signatureOf Mluc → ⊥ = λ m. desc-mluc (sym i ∙ m) in
+      rw (ne-eqb _ _ n, ne-eqb _ _ o, eq-eqb _ _ i)
+
+module _ (t s : List ℕ) (k : Kind) (h : k ≡ kindOf (u32At t 0)) (r : TextAnswer) where
+  named : (a : Kind) → (Kind.Other ≡ a → ⊥) → k ≡ a → u32At t 0 ≡ signatureOf a
+  named a o e = arm _ a o h e
+
+  pub kind-text : k ≡ Text → paper r ≡ textOf t → Said t (byType t (length s)) r s s
+  kind-text e g = leaving t s r _ _ (text-leaves t s) (as-text t (length s) (named Text (λ o. let z : _≡_ {A = ℕ} 0 1 = cc in omega arith) e)) g
+
+  pub kind-mluc : k ≡ Mluc → (s' : List ℕ) → Said t (mlucOf t (length s)) r s s' → Said t (byType t (length s)) r s s'
+  kind-mluc e s' g = same t s r _ _ s' (as-mluc t (length s) (named Mluc (λ o. let z : _≡_ {A = ℕ} 0 1 = cc in omega arith) e)) g
+
+  pub kind-desc : k ≡ Desc → paper r ≡ descOf t → Said t (byType t (length s)) r s s
+  kind-desc e g = leaving t s r _ _ (desc-leaves t s) (as-desc t (length s) (named Desc (λ o. let z : _≡_ {A = ℕ} 0 1 = cc in omega arith) e)) g
+
+pub kind-other : (t s : List ℕ) (k : Kind) → k ≡ kindOf (u32At t 0) → OneOf (others (Text ∷ Mluc ∷ Desc ∷ [])) (placeIn kinds.the-type k) → Said t (byType t (length s)) TextAnswer.Absent s s
+unfolding byType
+kind-other t s k h o =
+    let rest = others (Text ∷ Mluc ∷ Desc ∷ []) in
+    leaving t s _ _ absent (λ ws. refl) (rw (ne-eqb _ _ (unlike _ Text rest refl h o), ne-eqb _ _ (unlike _ Mluc rest refl h o), ne-eqb _ _ (unlike _ Desc rest refl h o))) refl
+
+pub ruleset kind-laws = (kind-text, kind-mluc, kind-desc, kind-other)
+
+-- ---- the tag in its profile
+
+module _ (p s : List ℕ) (entry size end : ℕ) (n : end ≡ countedSize size) where
+  pub string-small : end < 4 → Said (tagOf p entry size) (stringOf p entry size (length s)) TextAnswer.Absent s s
+  unfolding stringOf
+  string-small l = leaving _ s _ _ absent (λ ws. refl) (rw (← n, lt-ltb _ _ l)) refl
+
+  module _ (l : 4 ≤ end) (place : Place) (h : place ≡ placeOf (length p) entry end) where
+    pub string-past : place ≡ Past → Said (tagOf p entry size) (stringOf p entry size (length s)) (TextAnswer.Refused Refusal.PastProfile) s s
+    unfolding stringOf
+    string-past e = leaving _ s _ _ (refused 1) (λ ws. refl) (rw (← n, le-ltb _ _ l, lt-ltb _ _ (past _ _ _ h e))) refl
+
+    module _ (from to : ℕ) (e : place ≡ In from to) where
+      pub string-short : end < 8 → Said (tagOf p entry size) (stringOf p entry size (length s)) TextAnswer.Absent s s
+      unfolding stringOf
+      string-short m = let i = inside _ _ _ h e in leaving _ s _ _ absent (λ ws. refl) (rw (← n, le-ltb _ _ l, le-ltb _ _ (i .fits), lt-ltb _ _ m)) refl
+
+      pub string-kind : (r : TextAnswer) (s' : List ℕ) → 8 ≤ end → Said (take (to - from) (drop from p)) (byType (take (to - from) (drop from p)) (length s)) r s s' → Said (tagOf p entry size) (stringOf p entry size (length s)) r s s'
+      unfolding stringOf
+      string-kind r s' m g =
+          let i = inside _ _ _ h e in
+          let same-tag : take (to - from) (drop from p) ≡ tagOf p entry size = rw (i .from-is, i .to-is, part-is p entry end, n) in
+          same _ s r _ _ s' (rw (← n, le-ltb _ _ l, le-ltb _ _ (i .fits), le-ltb _ _ m, n)) (rw same-tag at g)
+
+pub ruleset string-laws = (string-small, string-past, string-short, string-kind)
