@@ -1,0 +1,82 @@
+// `chad`: read_chad_tag of moxcms.
+use fields::Entry;
+use fields::InTag;
+use fields::Kind;
+use fields::Place;
+use fields::Refusal;
+ghost use mathlib.Core.Path.{_≡_};
+ghost use mathlib.Core.Bool.{_&&_};
+ghost use lib.Dec.{eqb};
+ghost use lib.ListN.{length};
+ghost use Rattle.small.specs.Answer.{nine, paperChad};
+ghost use Rattle.small.specs.Layout.{nineNumbers};
+ghost use Rattle.small.specs.Small.{matrixOf, chadOf};
+
+// Three rows of three signed words in two's complement.
+pub struct ChadMatrix {
+    pub a0: u32,
+    pub a1: u32,
+    pub a2: u32,
+    pub a3: u32,
+    pub a4: u32,
+    pub a5: u32,
+    pub a6: u32,
+    pub a7: u32,
+    pub a8: u32,
+}
+
+pub enum ChadAnswer {
+    Value(ChadMatrix),
+    Absent,
+    Refused(Refusal),
+}
+
+fn matrix_at(tag: &[u8]) -> ChadMatrix
+    ensures { λ r. ⌜ nine r ≡ nineNumbers (now (tag .entry)) ⌝ }
+{
+    ChadMatrix {
+        a0: fields::u32_at(tag, InTag(8)),
+        a1: fields::u32_at(tag, InTag(12)),
+        a2: fields::u32_at(tag, InTag(16)),
+        a3: fields::u32_at(tag, InTag(20)),
+        a4: fields::u32_at(tag, InTag(24)),
+        a5: fields::u32_at(tag, InTag(28)),
+        a6: fields::u32_at(tag, InTag(32)),
+        a7: fields::u32_at(tag, InTag(36)),
+        a8: fields::u32_at(tag, InTag(40)),
+    }
+}
+
+// A tag of 44 to 47 bytes.
+fn read_matrix(tag: &[u8]) -> ChadAnswer
+    ensures { λ r. ⌜ paperChad r ≡ matrixOf (now (tag .entry)) ⌝ }
+{
+    if fields::u32_at(tag, InTag(0)) != Kind::SF32 {
+        return ChadAnswer::Refused(Refusal::BadChad);
+    }
+    if tag.len() != 44 {
+        return ChadAnswer::Refused(Refusal::BadChad);
+    }
+    ChadAnswer::Value(matrix_at(tag))
+}
+
+// The chromatic adaptation matrix whose tag stands at `entry`, of `size` bytes.
+pub fn read_chad_tag(profile: &[u8], entry: Entry, size: u32) -> ChadAnswer
+    ensures { λ r. ⌜ paperChad r ≡ chadOf (now (profile .entry)) (entry .0) size ⌝ }
+{
+    let place = fields::locate(profile, entry, InTag(size as u64));
+    let Place::In { from, to } = place else {
+        return ChadAnswer::Refused(Refusal::PastProfile);
+    };
+    let head = fields::locate(profile, entry, InTag(8));
+    let Place::In { from: _, to: _ } = head else {
+        return ChadAnswer::Refused(Refusal::PastProfile);
+    };
+    if size < 8 {
+        return ChadAnswer::Absent;
+    }
+    if (size - 8) / 4 != 9 {
+        return ChadAnswer::Absent;
+    }
+    read_matrix(&profile[from..to])
+}
