@@ -1,4 +1,4 @@
--- Bytes behind a list change nothing that lies in it: no number, no row of numbers, no part, and no test whether it reaches so far.
+-- Bytes behind a list change nothing that lies in it: no number, no row of numbers or bytes, no part, and no test whether it reaches so far.
 -- Assumes nothing.
 use Prim.Native.Nat.{ℕ, zero, suc, _+_, _*_, _≤_}
 use native.Mathlib.Omega.{arith}
@@ -9,7 +9,7 @@ use lib.Dec.{ltb}
 use lib.ListN.{length, take, drop, List·getD-append, length-append, length-drop}
 use lib.Seq.{take-append-le, drop-append-le}
 use borrow.Author.Tests.{ltb-false, le-ltb}
-use Rattle.fields.specs.Bytes.{u16At, u32At, wordsAt}
+use Rattle.fields.specs.Bytes.{u16At, u32At, bytesAt, wordsAt}
 
 module _ (t q : List ℕ) where
   pub u16-append : (i : ℕ) → i + 2 ≤ length t → u16At (t ++ q) i ≡ u16At t i
@@ -23,6 +23,11 @@ module _ (t q : List ℕ) where
   unfolding wordsAt
   words-append i zero h = refl
   words-append i (suc n) h = rw (u32-append i (omega arith), words-append (i + 4) n (omega arith))
+
+  pub bytes-append : (i n : ℕ) → i + n ≤ length t → bytesAt (t ++ q) i n ≡ bytesAt t i n
+  unfolding bytesAt
+  bytes-append i zero h = refl
+  bytes-append i (suc n) h = rw (List·getD-append t q 0 i (omega arith), bytes-append (i + 1) n (omega arith))
 
   -- what is not past the list is not past the longer one
   pub longer : (k : ℕ) → ltb (length t) k ≡ false → ltb (length (t ++ q)) k ≡ false

@@ -1,2 +1,4 @@
 pub mod Order
 pub mod Laws
+pub mod Unique
+pub mod More
