@@ -1,12 +1,13 @@
 -- Bytes behind a list change nothing that lies in it: no number, no row of numbers or bytes, no part, and no test whether it reaches so far.
+-- So what lies in the front part of a list is told by that part.
 -- Assumes nothing.
 use Prim.Native.Nat.{ℕ, zero, suc, _+_, _*_, _≤_}
 use native.Mathlib.Omega.{arith}
-use mathlib.Core.Path.{_≡_, refl}
+use mathlib.Core.Path.{_≡_, refl, sym, ap, _∙_}
 use mathlib.Core.Bool.{false}
 use mathlib.Core.List.{List, _++_}
 use lib.Dec.{ltb}
-use lib.ListN.{length, take, drop, List·getD-append, length-append, length-drop}
+use lib.ListN.{length, take, drop, List·getD-append, length-append, length-drop, length-take, take-append-drop}
 use lib.Seq.{take-append-le, drop-append-le}
 use borrow.Author.Tests.{ltb-false, le-ltb}
 use Rattle.fields.specs.Bytes.{u16At, u32At, bytesAt, wordsAt}
@@ -41,3 +42,7 @@ module _ (t q : List ℕ) where
   -- the rest of the list
   pub rest-append : (at : ℕ) → at ≤ length t → drop at (t ++ q) ≡ drop at t ++ q
   rest-append at h = drop-append-le at t q h
+
+-- what the first n bytes of a list tell, whatever stands behind them
+pub front : {A : Type 0} (tells : List ℕ → A) (s : List ℕ) (n : ℕ) → ((t q : List ℕ) → n ≤ length t → tells (t ++ q) ≡ tells t) → n ≤ length s → tells (take n s) ≡ tells s
+front tells s n h l = sym (h (take n s) (drop n s) (omega (arith, length-take n s))) ∙ ap tells (take-append-drop n s)

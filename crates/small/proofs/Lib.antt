@@ -2,3 +2,6 @@ pub mod Order
 pub mod Laws
 pub mod Unique
 pub mod More
+pub mod Accepted
+pub mod Inside
+pub mod Conforms

@@ -2,7 +2,7 @@
 -- Assumes nothing.
 use Prim.Native.Nat.{ℕ, _+_, _-_, _≤_, _<_}
 use native.Mathlib.Omega.{arith}
-use mathlib.Core.Path.{_≡_, sym, _∙_, ap}
+use mathlib.Core.Path.{_≡_, refl, sym, _∙_, ap}
 use mathlib.Core.List.{List}
 use lib.Dec.{ltb, eqb}
 use lib.ListN.{length, take, drop}
@@ -13,7 +13,7 @@ use Rattle.fields.specs.declared.Place.{Place}
 use Rattle.fields.specs.declared.Place.the-variants.{In, Past}
 use Rattle.fields.proofs.Choice.{each}
 use Rattle.fields.proofs.Located.{inside, past, part-is}
-use Rattle.small.specs.Answer.{Answer, value, refused}
+use Rattle.small.specs.Answer.{Answer, value, default, absent, refused}
 use Rattle.small.specs.Order.{foundOf, answerTo}
 use Rattle.small.specs.declared.window.Found.{Found}
 
@@ -100,6 +100,45 @@ answer-tag says short other least end signature p entry size f from to a h e w =
 pub answer-fields : (fields : List ℕ → List ℕ) (short other : Answer) (least end signature : ℕ) (p : List ℕ) (entry size : ℕ) (f : Found) (from to : ℕ) (ws : List ℕ) → f ≡ foundOf least end signature p entry size → f ≡ Found.Tag from to → ws ≡ fields (take (to - from) (drop from p)) → value ws ≡ answerTo (foundOf least end signature p entry size) short other (value (fields (tagAt p entry end)))
 answer-fields fields short other least end signature p entry size f from to ws h e w =
     answer-tag (λ (t : List ℕ). value (fields t)) short other least end signature p entry size f from to (value ws) h e (ap value w)
+
+-- ---- what stands behind a value
+
+-- an answer that is no value
+abbrev pub Silent : Answer → Type 0
+Silent a = (ws : List ℕ) → a ≡ value ws → ⊥
+
+pub no-absence : Silent absent
+no-absence ws e = let z : _≡_ {A = ℕ} 0 1 = cc in omega arith
+
+pub no-default : Silent default
+no-default ws e = let z : _≡_ {A = ℕ} 0 1 = cc in omega arith
+
+pub no-refusal : (n : ℕ) → Silent (refused n)
+no-refusal n ws e = let z : _≡_ {A = ℕ} 0 1 = cc in omega arith
+
+pub record Met (least end signature : ℕ) (p : List ℕ) (entry size : ℕ) (this : Answer) (ws : List ℕ) : Type 0 where
+  pub long : least ≤ size
+  pub fits : entry + end ≤ length p
+  pub typed : u32At (tagAt p entry end) 0 ≡ signature
+  pub says : this ≡ value ws
+
+pub met : (least end signature : ℕ) (p : List ℕ) (entry size : ℕ) (short other this : Answer) (ws : List ℕ) → Silent short → Silent other → answerTo (foundOf least end signature p entry size) short other this ≡ value ws → Met least end signature p entry size this ws
+unfolding answerTo
+met least end signature p entry size short other this ws s o = by (foundOf least end signature p entry size) refl
+  where
+    by : (f : Found) → foundOf least end signature p entry size ≡ f → answerTo f short other this ≡ value ws → Met least end signature p entry size this ws
+    by Found.Short h v = absurd (s ws v)
+    by Found.Past h v = absurd (no-refusal 1 ws v)
+    by Found.Other h v = absurd (o ws v)
+    by (Found.Tag from to) h v =
+        let t = tagged least end signature p entry size h in
+        record { long = t .long; fits = t .fits; typed = t .typed; says = v }
+
+-- ---- a tag that is all there is found
+
+pub reaches : (least end signature : ℕ) (p : List ℕ) (entry size : ℕ) (short other this : Answer) → least ≤ size → entry + end ≤ length p → u32At (tagAt p entry end) 0 ≡ signature → answerTo (foundOf least end signature p entry size) short other this ≡ this
+unfolding foundOf answerTo
+reaches least end signature p entry size short other this l f t = simp (le-ltb _ _ l, le-ltb _ _ f, eq-eqb _ _ t)
 
 pub ruleset find-laws = (found-short, found-past, found-tag, found-other)
 

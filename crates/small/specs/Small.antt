@@ -1,6 +1,6 @@
 -- The small readers: what each call must answer.
 use Prim.Native.Nat.{ℕ, _+_, _-_, _/_}
-use mathlib.Core.Bool.{cond, _&&_}
+use mathlib.Core.Bool.{cond}
 use mathlib.Core.List.{List}
 use lib.Dec.{ltb, eqb}
 use lib.ListN.{length}
@@ -15,7 +15,10 @@ use Rattle.small.specs.Order.{foundOf, answerTo}
 
 -- `chad`, of a tag that has room for nine numbers and not for ten
 unfoldable pub matrixOf : List ℕ → Answer
-matrixOf t = cond (eqb (u32At t 0) (signatureOf Sf32) && eqb (length t) 44) (value (nineNumbers t)) (refused 17)
+matrixOf t =
+    cond (eqb (u32At t 0) (signatureOf Sf32)) (
+    cond (eqb (length t) 44) (value (nineNumbers t)) (refused 17)) (
+    refused 17)
 
 unfoldable pub chadOf : List ℕ → ℕ → ℕ → Answer
 chadOf profile entry size =
