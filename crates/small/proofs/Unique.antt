@@ -22,7 +22,7 @@ once paper result back a r s p q = sym (back r) ∙ ap result (p ∙ sym q) ∙ 
 -- ---- `chad`
 
 abbrev chadFrom : Answer → ChadAnswer
-chadFrom (value ws) = ChadAnswer.Value (record { a0 = getD ws 0 0; a1 = getD ws 1 0; a2 = getD ws 2 0; a3 = getD ws 3 0; a4 = getD ws 4 0; a5 = getD ws 5 0; a6 = getD ws 6 0; a7 = getD ws 7 0; a8 = getD ws 8 0 })
+chadFrom (value ws) = ChadAnswer.Value (record { e00 = getD ws 0 0; e01 = getD ws 1 0; e02 = getD ws 2 0; e10 = getD ws 3 0; e11 = getD ws 4 0; e12 = getD ws 5 0; e20 = getD ws 6 0; e21 = getD ws 7 0; e22 = getD ws 8 0 })
 chadFrom default = ChadAnswer.Absent
 chadFrom absent = ChadAnswer.Absent
 chadFrom (refused n) = ChadAnswer.Refused (nameOf n)

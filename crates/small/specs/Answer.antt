@@ -25,7 +25,7 @@ pub data Answer : Type 0 where
 
 -- the numbers of each record
 abbrev pub nine : ChadMatrix → List ℕ
-nine m = m .a0 ∷ m .a1 ∷ m .a2 ∷ m .a3 ∷ m .a4 ∷ m .a5 ∷ m .a6 ∷ m .a7 ∷ m .a8 ∷ []
+nine m = m .e00 ∷ m .e01 ∷ m .e02 ∷ m .e10 ∷ m .e11 ∷ m .e12 ∷ m .e20 ∷ m .e21 ∷ m .e22 ∷ []
 
 abbrev pub twelve : DateBytes → List ℕ
 twelve d =

@@ -9,17 +9,17 @@ ghost use Rattle.small.specs.Answer.{nine, paperChad};
 ghost use Rattle.small.specs.Layout.{nineNumbers};
 ghost use Rattle.small.specs.Small.{matrixOf, chadOf};
 
-// Three rows of three signed words in two's complement.
+// Three rows of three numbers, named as in the Rust; each is a signed word in two's complement.
 pub struct ChadMatrix {
-    pub a0: u32,
-    pub a1: u32,
-    pub a2: u32,
-    pub a3: u32,
-    pub a4: u32,
-    pub a5: u32,
-    pub a6: u32,
-    pub a7: u32,
-    pub a8: u32,
+    pub e00: u32,
+    pub e01: u32,
+    pub e02: u32,
+    pub e10: u32,
+    pub e11: u32,
+    pub e12: u32,
+    pub e20: u32,
+    pub e21: u32,
+    pub e22: u32,
 }
 
 pub enum ChadAnswer {
@@ -32,15 +32,15 @@ fn matrix_at(tag: &[u8]) -> ChadMatrix
     ensures { λ r. ⌜ nine r ≡ nineNumbers (now (tag .entry)) ⌝ }
 {
     ChadMatrix {
-        a0: fields::u32_at(tag, InTag(8)),
-        a1: fields::u32_at(tag, InTag(12)),
-        a2: fields::u32_at(tag, InTag(16)),
-        a3: fields::u32_at(tag, InTag(20)),
-        a4: fields::u32_at(tag, InTag(24)),
-        a5: fields::u32_at(tag, InTag(28)),
-        a6: fields::u32_at(tag, InTag(32)),
-        a7: fields::u32_at(tag, InTag(36)),
-        a8: fields::u32_at(tag, InTag(40)),
+        e00: fields::u32_at(tag, InTag(8)),
+        e01: fields::u32_at(tag, InTag(12)),
+        e02: fields::u32_at(tag, InTag(16)),
+        e10: fields::u32_at(tag, InTag(20)),
+        e11: fields::u32_at(tag, InTag(24)),
+        e12: fields::u32_at(tag, InTag(28)),
+        e20: fields::u32_at(tag, InTag(32)),
+        e21: fields::u32_at(tag, InTag(36)),
+        e22: fields::u32_at(tag, InTag(40)),
     }
 }
 
