@@ -222,9 +222,9 @@ def words(*numbers: int) -> bytes:
 # A family
 
 NEAR_TYPES = (
-    b"sf32", b"sig ", b"dtim", b"meas", b"view", b"XYZ ", b"cicp", b"sf16", b"sig\0", b"SIG ", b"dtin", b"Meas", b"wiev",
-    b"xyz ", b"XYZ\0", b"cicP", b"curv", bytes(4), b"\xff" * 4,
-)  # fmt: skip
+    b"sf32", b"sig ", b"dtim", b"meas", b"view", b"XYZ ", b"cicp", b"sf16", b"sig\0", b"SIG ", b"dtin", b"Meas",
+    b"wiev", b"xyz ", b"XYZ\0", b"cicP", b"curv", bytes(4), b"\xff" * 4,
+)
 BORDERS = (0, 4, 7, 8, 9, 11, 12, 13, 16, 19, 20, 21, 24, 28, 35, 36, 37, 40, 43, 44, 45, 46, 47, 48, 52)
 HEAD = 8  # bytes in front of the fields
 
@@ -243,7 +243,7 @@ class Family:
     KINDS: tuple[str, ...]
 
     @property
-    def READERS(self) -> tuple[int, ...]:  # noqa: N802
+    def READERS(self) -> tuple[int, ...]:
         return (self.reader,)
 
     def kind(self, line: str) -> str:
@@ -290,7 +290,7 @@ class Family:
         )
 
     def exhaustive(self) -> Iterator[Job]:
-        """Offsets, sizes and ends of the profile around a whole element; types a byte away; every value of some fields."""
+        """Offsets, sizes and ends of the profile around a whole element; types a byte away; more fields."""
         whole = self.element()
         for front in (0, 3):
             profile = bytes(range(1, front + 1)) + whole + b"\x01\x02\x03"
@@ -337,9 +337,10 @@ class Family:
         yield "21 bytes in front", self._job(bytes(range(21)) + whole, offset=21, size=len(whole))
         yield "offset + size passes 2^32", self._job(bytes(21) + whole, offset=21, size=LAST_U32 - 8)
         for signature in (b"curv", self.signature.swapcase(), self.signature[::-1]):
-            yield f"type {signature!r}", self._job(self.element(signature=signature))
-            yield f"type {signature!r}, size 11", self._job(self.element(signature=signature), size=11)
-            yield f"type {signature!r}, past the profile", self._job(self.element(signature=signature), size=len(whole) + 1)
+            foreign = self.element(signature=signature)
+            yield f"type {signature!r}", self._job(foreign)
+            yield f"type {signature!r}, size 11", self._job(foreign, size=11)
+            yield f"type {signature!r}, past the profile", self._job(foreign, size=len(foreign) + 1)
 
 
 def _random_size(rng: Random, exact: int, offset: int, length: int) -> int:

@@ -16,7 +16,7 @@ use Rattle.fields.proofs.Append.{u32-append, words-append, bytes-append, front}
 use Rattle.small.specs.Answer.{value}
 use Rattle.small.specs.Layout.{signatureIn, dateBytes, measurement, conditions, firstXyz, codePoints}
 use Rattle.small.specs.Small.{matrixOf, chadOf, sigOf, dateOf, windowOf, measOf, viewOf, tripleOf, xyzOf, cicpOf}
-use Rattle.small.specs.Standard.{Laid, LaidNine, InProfile, Accepts, Answers, Always, SameDate, Whole36}
+use Rattle.small.specs.Standard.{Laid, LaidNine, Always, InProfile, Whole36, SameDate, Accepts, AcceptsOnly}
 use Rattle.small.proofs.Accepted.{fields-are, chad-behind, window-behind, triple-behind}
 use Rattle.small.proofs.Order.{no-absence, no-default, no-refusal, met, reaches}
 
@@ -55,8 +55,8 @@ chad-accepts p entry size ws f _ h =
     let q : (size - 8) / 4 ≡ 9 = omega arith in
     simp (le-ltb _ _ f, le-ltb _ _ m, le-ltb _ _ l, eq-eqb _ _ q, eq-eqb _ _ (h .laid .signature), eq-eqb _ _ (h .filled)) (ap value (h .laid .given))
 
-pub chad-answers : Answers chadOf LaidNine Always
-chad-answers p entry size ws _ v = chad-behind p entry size ws v
+pub chad-laid : AcceptsOnly chadOf LaidNine Always
+chad-laid p entry size ws _ v = chad-behind p entry size ws v
 
 -- ---- `sig ` and `cicp`
 
@@ -64,8 +64,8 @@ pub sig-accepts : Accepts sigOf (Laid Sig 12 signatureIn) Always
 sig-accepts p entry size ws f _ h =
     reaches 12 size (signatureOf Sig) p entry size _ _ _ (omega (arith, h .whole, tag-length p entry size f)) f (h .signature) ∙ ap value (h .given)
 
-pub sig-answers : Answers sigOf (Laid Sig 12 signatureIn) Always
-sig-answers p entry size ws _ v =
+pub sig-laid : AcceptsOnly sigOf (Laid Sig 12 signatureIn) Always
+sig-laid p entry size ws _ v =
     let m = met _ _ _ p entry size _ _ _ ws (no-refusal 2) no-absence v in
     (m .fits, record { signature = m .typed; whole = omega (arith, m .long, tag-length p entry size (m .fits)); given = fields-are (m .says) })
 
@@ -73,8 +73,8 @@ pub cicp-accepts : Accepts cicpOf (Laid Cicp 12 codePoints) Always
 cicp-accepts p entry size ws f _ h =
     reaches 12 size (signatureOf Cicp) p entry size _ _ _ (omega (arith, h .whole, tag-length p entry size f)) f (h .signature) ∙ ap value (h .given)
 
-pub cicp-answers : Answers cicpOf (Laid Cicp 12 codePoints) Always
-cicp-answers p entry size ws _ v =
+pub cicp-laid : AcceptsOnly cicpOf (Laid Cicp 12 codePoints) Always
+cicp-laid p entry size ws _ v =
     let m = met _ _ _ p entry size _ _ _ ws no-absence no-absence v in
     (m .fits, record { signature = m .typed; whole = omega (arith, m .long, tag-length p entry size (m .fits)); given = fields-are (m .says) })
 
@@ -84,8 +84,8 @@ pub date-accepts : Accepts dateOf (Laid Dtim 20 dateBytes) SameDate
 date-accepts p entry size ws f s h =
     reaches 20 size (signatureOf Dtim) p entry size _ _ _ (omega (arith, h .whole, tag-length p entry size f)) f (h .signature) ∙ ap value (s ∙ h .given)
 
-pub date-answers : Answers dateOf (Laid Dtim 20 dateBytes) SameDate
-date-answers p entry size ws s v =
+pub date-laid : AcceptsOnly dateOf (Laid Dtim 20 dateBytes) SameDate
+date-laid p entry size ws s v =
     let m = met _ _ _ p entry size _ _ _ ws no-absence no-absence v in
     (m .fits, record { signature = m .typed; whole = omega (arith, m .long, tag-length p entry size (m .fits)); given = sym s ∙ fields-are (m .says) })
 
@@ -103,8 +103,8 @@ meas-accepts p entry size ws f _ h =
     let m : entry + 36 ≤ length p = omega arith in
     reaches 12 size (signatureOf Meas) p entry size _ _ (windowOf p entry) (omega arith) f (h .signature) ∙ simp (le-ltb _ _ m) (ap value (same-measurement p entry size f l ∙ h .given))
 
-pub meas-answers : Answers measOf (Laid Meas 36 measurement) Whole36
-meas-answers p entry size ws l v =
+pub meas-laid : AcceptsOnly measOf (Laid Meas 36 measurement) Whole36
+meas-laid p entry size ws l v =
     let m = met _ _ _ p entry size _ _ _ ws no-absence no-absence v in
     (m .fits, record { signature = m .typed; whole = omega (arith, l, tag-length p entry size (m .fits)); given = sym (same-measurement p entry size (m .fits) l) ∙ window-behind p entry ws (m .says) .1 })
 
@@ -115,8 +115,8 @@ view-accepts p entry size ws f _ h =
     let l : 36 ≤ size = omega (arith, h .whole, tag-length p entry size f) in
     reaches 36 36 (signatureOf View) p entry size _ _ _ l (omega arith) (same-type p entry size f l ∙ h .signature) ∙ ap value (same-conditions p entry size f l ∙ h .given)
 
-pub view-answers : Answers viewOf (Laid View 36 conditions) InProfile
-view-answers p entry size ws f v =
+pub view-laid : AcceptsOnly viewOf (Laid View 36 conditions) InProfile
+view-laid p entry size ws f v =
     let m = met _ _ _ p entry size _ _ _ ws no-absence no-absence v in
     (f, record { signature = sym (same-type p entry size f (m .long)) ∙ m .typed; whole = omega (arith, m .long, tag-length p entry size f); given = sym (same-conditions p entry size f (m .long)) ∙ fields-are (m .says) })
 
@@ -127,8 +127,8 @@ unfolding tripleOf
 xyz-accepts p entry size ws f _ h =
     reaches 12 size (signatureOf Xyz) p entry size _ _ (tripleOf (tagAt p entry size)) (omega (arith, h .whole, tag-length p entry size f)) f (h .signature) ∙ simp (le-ltb _ _ (h .whole)) (ap value (h .given))
 
-pub xyz-answers : Answers xyzOf (Laid Xyz 20 firstXyz) Always
-xyz-answers p entry size ws _ v =
+pub xyz-laid : AcceptsOnly xyzOf (Laid Xyz 20 firstXyz) Always
+xyz-laid p entry size ws _ v =
     let m = met _ _ _ p entry size _ _ _ ws no-default no-default v in
     let b = triple-behind _ ws (m .says) in
     (m .fits, record { signature = m .typed; whole = b .0; given = b .1 })
