@@ -89,10 +89,10 @@ date-laid p entry size ws s v =
     let m = met _ _ _ p entry size _ _ _ ws no-absence no-absence v in
     (m .fits, record { signature = m .typed; whole = omega (arith, m .long, tag-length p entry size (m .fits)); given = sym s ∙ fields-are (m .says) })
 
--- the date of a tag at offset 0 is the profile's
-pub date-first : (p : List ℕ) (size : ℕ) → 20 ≤ size → size ≤ length p → SameDate p 0 size
+-- a tag at offset 0 has it
+pub date-first : (p : List ℕ) (size : ℕ) → 20 ≤ size → InProfile p 0 size → SameDate p 0 size
 unfolding dateBytes
-date-first p size l f = sym (front dateBytes p size (λ t q k. bytes-append t q 8 12 (omega arith)) f)
+date-first p size l f = same p 0 size f dateBytes 20 (λ t q k. bytes-append t q 8 12 k) l
 
 -- ---- `meas`
 

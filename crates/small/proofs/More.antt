@@ -11,7 +11,7 @@ use borrow.Author.Tests.{ltb-false}
 use Rattle.fields.specs.Place.{tagAt}
 use Rattle.fields.specs.Tag.{signatureOf}
 use Rattle.fields.specs.declared.Kind.the-variants.{Dtim}
-use Rattle.fields.proofs.Append.{longer, part-append, bytes-append}
+use Rattle.fields.proofs.Append.{longer, part-append}
 use Rattle.fields.proofs.Grow.{Grows, choose, passes}
 use Rattle.small.specs.Answer.{Answer, value, absent, refused}
 use Rattle.small.specs.Layout.{signatureIn, dateBytes, conditions, codePoints}
@@ -68,8 +68,7 @@ module _ (p q : List ℕ) (entry size : ℕ) where
   sig-more = tag-more _ _ _ _ _ (λ (t : List ℕ). value (signatureIn t))
 
   pub date-more : Grows Past (dateOf p entry size) (dateOf (p ++ q) entry size)
-  unfolding dateBytes
-  date-more = order-more 20 size (signatureOf Dtim) absent absent _ _ (λ l f. inr (ap value (bytes-append p q 8 12 (omega arith))))
+  date-more = order-more 20 size (signatureOf Dtim) absent absent _ _ (λ l f. inr (ap (λ (t : List ℕ). value (dateBytes t)) (part-append p q 0 20 (omega arith))))
 
   pub meas-more : Grows Past (measOf p entry size) (measOf (p ++ q) entry size)
   unfolding windowOf

@@ -72,6 +72,10 @@ module _ (least end signature : ℕ) (p : List ℕ) (entry size : ℕ) where
     pub ends : to ≤ length p
     ends = let w = tagged (sym h ∙ e) in omega arith
 
+-- a tag that is found whole makes the profile as long as the least size
+pub covers : (least signature : ℕ) (p : List ℕ) (entry size : ℕ) {f : Found} {from to : ℕ} → f ≡ foundOf least size signature p entry size → f ≡ Found.Tag from to → least ≤ length p
+covers least signature p entry size h e = let w = tagged least size signature p entry size (sym h ∙ e) in omega arith
+
 -- ---- the ways out of a reader
 
 module _ (short other this : Answer) (f g : Found) (h : f ≡ g) where

@@ -9,7 +9,7 @@ use Rattle.fields.specs.Place.{tagAt}
 use Rattle.small.specs.Answer.{Answer, refused}
 use Rattle.small.specs.declared.window.Found.{Found}
 
--- the bytes before `end` of the tag at `entry`, where its size is no less than `least`, they lie in the profile, and their type is this
+-- the first `end` bytes of the tag at `entry`, where its size is no less than `least`, they lie in the profile, and their type is this
 unfoldable pub foundOf : ℕ → ℕ → ℕ → List ℕ → ℕ → ℕ → Found
 foundOf least end signature profile entry size =
     cond (ltb size least) Found.Short (

@@ -32,10 +32,10 @@ abbrev pub sigOf : List ℕ → ℕ → ℕ → Answer
 sigOf profile entry size =
     answerTo (foundOf tagSize size (signatureOf Sig) profile entry size) (refused 2) absent (value (signatureIn (tagAt profile entry size)))
 
--- `dtim`: the bytes are the profile's, not the tag's
+-- `dtim`: the bytes are those of a tag at the front of the profile, wherever the tag stands
 abbrev pub dateOf : List ℕ → ℕ → ℕ → Answer
 dateOf profile entry size =
-    answerTo (foundOf 20 size (signatureOf Dtim) profile entry size) absent absent (value (dateBytes profile))
+    answerTo (foundOf 20 size (signatureOf Dtim) profile entry size) absent absent (value (dateBytes (tagAt profile 0 20)))
 
 -- `meas`: 36 bytes are read, whatever the size
 unfoldable pub windowOf : List ℕ → ℕ → Answer

@@ -38,9 +38,9 @@ InProfile p entry size = entry + size ≤ length p
 abbrev pub Whole36 : List ℕ → ℕ → ℕ → Type 0
 Whole36 p entry size = 36 ≤ size
 
--- the profile has the tag's date where `dtim` looks for it
+-- the front of the profile, where `dtim` looks, has the tag's date
 abbrev pub SameDate : List ℕ → ℕ → ℕ → Type 0
-SameDate p entry size = dateBytes p ≡ dateBytes (tagAt p entry size)
+SameDate p entry size = dateBytes (tagAt p 0 20) ≡ dateBytes (tagAt p entry size)
 
 -- ---- conformance, both ways
 

@@ -61,14 +61,7 @@ fn read_bytes(profile: &[u8], entry: Entry) -> MeasAnswer
 pub fn read_meas_tag(profile: &[u8], entry: Entry, size: u32) -> MeasAnswer
     ensures { λ r. ⌜ paperMeas r ≡ measOf (now (profile .entry)) (entry .0) size ⌝ }
 {
-    let found = window::find(
-        profile,
-        entry,
-        size,
-        TAG_SIZE,
-        InTag(size as u64),
-        Kind::MEAS,
-    );
+    let found = window::find(profile, entry, size, TAG_SIZE, size, Kind::MEAS);
     match found {
         Found::Short => MeasAnswer::Absent,
         Found::Past => MeasAnswer::Refused(Refusal::PastProfile),

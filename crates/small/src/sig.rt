@@ -20,14 +20,7 @@ pub enum SigAnswer {
 pub fn read_tech_tag(profile: &[u8], entry: Entry, size: u32) -> SigAnswer
     ensures { λ r. ⌜ paperSig r ≡ sigOf (now (profile .entry)) (entry .0) size ⌝ }
 {
-    let found = window::find(
-        profile,
-        entry,
-        size,
-        TAG_SIZE,
-        InTag(size as u64),
-        Kind::SIG,
-    );
+    let found = window::find(profile, entry, size, TAG_SIZE, size, Kind::SIG);
     match found {
         Found::Short => SigAnswer::Refused(Refusal::TagTooShort),
         Found::Past => SigAnswer::Refused(Refusal::PastProfile),

@@ -13,22 +13,22 @@ pub(crate) enum Found {
     Tag { from: usize, to: usize },
 }
 
-// The bytes before `end` of a tag of `size` bytes. A size under `least` is too short; then the bytes may lie past the profile; then the
+// The first `end` bytes of a tag of `size` bytes. A size under `least` is too short; then the bytes may lie past the profile; then the
 // type may be another than `signature`.
 pub(crate) fn find(
     profile: &[u8],
     entry: Entry,
     size: u32,
     least: u32,
-    end: InTag,
+    end: u32,
     signature: u32,
 ) -> Found
-    ensures { λ r. ⌜ r ≡ foundOf least (end .0) signature (now (profile .entry)) (entry .0) size ⌝ }
+    ensures { λ r. ⌜ r ≡ foundOf least end signature (now (profile .entry)) (entry .0) size ⌝ }
 {
     if size < least {
         return Found::Short;
     }
-    let place = fields::locate(profile, entry, end);
+    let place = fields::locate(profile, entry, InTag(end as u64));
     let Place::In { from, to } = place else {
         return Found::Past;
     };

@@ -1,12 +1,12 @@
--- `small::dtim::bytes_of` meets its contract: its twelve bytes are those of the layout.
+-- `small::dtim::bytes_at` meets its contract: its twelve bytes are those of the layout.
 -- Assumes nothing.
 use Rattle.small.proofs.Laws.{twelve-are}
 use borrow.Author.Needs.{needs}
-use Rattle.small.proofs.dtim.bytes_of.Statement.{statement}
-use Rattle.small.proofs.dtim.bytes_of.Tie as tie
+use Rattle.small.proofs.dtim.bytes_at.Statement.{statement}
+use Rattle.small.proofs.dtim.bytes_at.Tie as tie
 
-pub bytes-of-spec : {M : Type 1} → statement M
-bytes-of-spec =
+pub bytes-at-spec : {M : Type 1} → statement M
+bytes-at-spec =
     tie.close
     (tie.spec
     (λ c κs. search needs)
