@@ -8,12 +8,12 @@ use mathlib.Core.List.{List, _∷_, _++_}
 use lib.ListN.{length, drop, replicate, length-take}
 use Rattle.fields.specs.Bytes.{bytesAt, wordsAt}
 use Rattle.fields.specs.Tag.{signatureOf}
-use Rattle.small.specs.Answer.{value}
+use Rattle.small.specs.Answer.{Answer, value}
 use Rattle.small.specs.Layout.{dateBytes, measurement}
 use Rattle.small.specs.Order.{foundOf, answerTo}
 use Rattle.small.specs.Small.{chadOf, sigOf, dateOf, windowOf, measOf, viewOf, xyzOf, cicpOf}
 use Rattle.small.proofs.Accepted.{chad-behind, window-behind, triple-behind}
-use Rattle.small.proofs.Order.{no-absence, no-default, no-refusal, met}
+use Rattle.small.proofs.Order.{no-absence, no-default, no-refusal, Met, met}
 
 -- the tag's bytes before `end`, in which all fields stand, are bytes of the tag, and of the profile
 pub record InTag (p : List ℕ) (entry size end : ℕ) : Type 0 where
@@ -21,6 +21,10 @@ pub record InTag (p : List ℕ) (entry size end : ℕ) : Type 0 where
   pub in-profile : entry + end ≤ length p
 
 module _ (p : List ℕ) (entry size : ℕ) (ws : List ℕ) where
+  -- fields that end with the least size of a tag that is found whole
+  plain-inside : {least signature : ℕ} {this : Answer} → Met least size signature p entry size this ws → InTag p entry size least
+  plain-inside m = record { in-tag = m .long; in-profile = omega (arith, m .long, m .fits) }
+
   pub chad-inside : chadOf p entry size ≡ value ws → InTag p entry size 44
   chad-inside v =
       let b = chad-behind p entry size ws v in
@@ -28,9 +32,7 @@ module _ (p : List ℕ) (entry size : ℕ) (ws : List ℕ) where
       record { in-tag = l; in-profile = omega (arith, b .0) }
 
   pub sig-inside : sigOf p entry size ≡ value ws → InTag p entry size 12
-  sig-inside v =
-      let m = met _ _ _ p entry size _ _ _ ws (no-refusal 2) no-absence v in
-      record { in-tag = m .long; in-profile = omega (arith, m .long, m .fits) }
+  sig-inside v = plain-inside (met _ _ _ p entry size _ _ _ ws (no-refusal 2) no-absence v)
 
   -- whether its declared end lies in the profile or not
   pub view-inside : viewOf p entry size ≡ value ws → InTag p entry size 36
@@ -45,9 +47,7 @@ module _ (p : List ℕ) (entry size : ℕ) (ws : List ℕ) where
       record { in-tag = l; in-profile = omega (arith, m .fits) }
 
   pub cicp-inside : cicpOf p entry size ≡ value ws → InTag p entry size 12
-  cicp-inside v =
-      let m = met _ _ _ p entry size _ _ _ ws no-absence no-absence v in
-      record { in-tag = m .long; in-profile = omega (arith, m .long, m .fits) }
+  cicp-inside v = plain-inside (met _ _ _ p entry size _ _ _ ws no-absence no-absence v)
 
   -- the 36 bytes from the tag's first on
   pub meas-inside : measOf p entry size ≡ value ws → entry + 36 ≤ length p

@@ -2,7 +2,7 @@
 -- Assumes nothing.
 use Prim.Native.Nat.{ℕ, _+_, _≤_}
 use native.Mathlib.Omega.{arith}
-use mathlib.Core.Path.{_≡_, refl, ap, _∙_}
+use mathlib.Core.Path.{_≡_, refl, ap}
 use mathlib.Core.List.{List, _++_}
 use mathlib.Core.Logic.{inl, inr}
 use lib.Dec.{ltb}
@@ -86,7 +86,7 @@ module _ (p q : List ℕ) (entry size : ℕ) where
   pub cicp-more : Grows Past (cicpOf p entry size) (cicpOf (p ++ q) entry size)
   cicp-more = tag-more _ _ _ _ _ (λ (t : List ℕ). value (codePoints t))
 
--- so a value keeps its fields
-pub kept : {a b : Answer} {ws : List ℕ} → Grows Past a b → a ≡ value ws → b ≡ value ws
-kept (inl e) v = let z : _≡_ {A = ℕ} 0 1 = cc in absurd (omega arith)
-kept (inr e) v = e ∙ v
+-- so every other answer is kept: a value with its fields, the default, an absence, any other refusal
+pub kept : {a b : Answer} → (a ≡ refused 1 → ⊥) → Grows Past a b → b ≡ a
+kept h (inl e) = absurd (h e)
+kept h (inr e) = e
