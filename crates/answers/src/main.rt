@@ -1,6 +1,7 @@
 // `answers`: reads jobs from standard input until it ends, calls the reader that each names, and writes a line for each. By it the
 // readers are compared with the Rust's. A job that is cut short, names no reader or passes a bound ends the program.
 mod curves;
+mod smalls;
 mod tables;
 mod texts;
 mod told;
@@ -16,6 +17,13 @@ fn answer_job(profile: &[u8], job: StreamJob, words: &mut [u32], line: &mut [u8]
         1 => tables::answer(profile, job, Walk::Crate, words, line),
         2 => curves::answer(profile, job, Walk::Crate, line),
         3 => texts::answer(profile, job, words, line),
+        4 => smalls::chad(profile, job, line),
+        5 => smalls::sig(profile, job, line),
+        6 => smalls::dtim(profile, job, line),
+        7 => smalls::meas(profile, job, line),
+        8 => smalls::view(profile, job, line),
+        9 => smalls::xyz(profile, job, line),
+        10 => smalls::cicp(profile, job, line),
         11 => tables::answer(profile, job, Walk::Book, words, line),
         12 => curves::answer(profile, job, Walk::Book, line),
         _ => 0,

@@ -13,7 +13,7 @@ fn wide8(x: u8) -> u64 {
     x as u64
 }
 
-fn put_bytes(line: &mut [u8], at: usize, bytes: &[u8]) -> usize {
+pub(crate) fn put_bytes(line: &mut [u8], at: usize, bytes: &[u8]) -> usize {
     let mut end = at;
     let mut i = 0;
     while i < bytes.len() {

@@ -1,0 +1,58 @@
+// `cicp`: read_cicp_tag of moxcms.
+use crate::window;
+use crate::window::Found;
+use fields::Entry;
+use fields::InTag;
+use fields::Kind;
+use fields::Refusal;
+use fields::TAG_SIZE;
+ghost use mathlib.Core.Path.{_≡_};
+ghost use Rattle.small.specs.Answer.{codes, paperCicp};
+ghost use Rattle.small.specs.Layout.{codePoints, fullRange};
+ghost use Rattle.small.specs.Small.{cicpOf};
+
+// The code points of ITU-T H.273, as they stand: colour primaries, transfer characteristics, matrix coefficients, and the flag of the
+// full range.
+pub struct CicpCodes {
+    pub primaries: u8,
+    pub transfer: u8,
+    pub matrix: u8,
+    pub range: u8,
+}
+
+pub enum CicpAnswer {
+    Value(CicpCodes),
+    Absent,
+    Refused(Refusal),
+}
+
+// Whether the codes say full range. The Rust's full_range.
+pub fn full_range(code: CicpCodes) -> bool
+    ensures { λ r. ⌜ r ≡ fullRange (code .range) ⌝ }
+{
+    code.range == 1
+}
+
+fn codes_at(tag: &[u8]) -> CicpCodes
+    ensures { λ r. ⌜ codes r ≡ codePoints (now (tag .entry)) ⌝ }
+{
+    CicpCodes {
+        primaries: fields::u8_at(tag, InTag(8)),
+        transfer: fields::u8_at(tag, InTag(9)),
+        matrix: fields::u8_at(tag, InTag(10)),
+        range: fields::u8_at(tag, InTag(11)),
+    }
+}
+
+// The four code points of the tag at `entry`, of `size` bytes. No code is refused.
+pub fn read_cicp_tag(profile: &[u8], entry: Entry, size: u32) -> CicpAnswer
+    ensures { λ r. ⌜ paperCicp r ≡ cicpOf (now (profile .entry)) (entry .0) size ⌝ }
+{
+    let found = window::find(profile, entry, size, TAG_SIZE, size, Kind::CICP);
+    match found {
+        Found::Short => CicpAnswer::Absent,
+        Found::Past => CicpAnswer::Refused(Refusal::PastProfile),
+        Found::Other => CicpAnswer::Absent,
+        Found::Tag { from, to } => CicpAnswer::Value(codes_at(&profile[from..to])),
+    }
+}

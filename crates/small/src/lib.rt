@@ -1,0 +1,31 @@
+// The small readers of moxcms, a module each: `chad`, `sig `, `dtim`, `meas`, `view`, `XYZ ` and `cicp`. A size of 0 is an ordinary size.
+mod chad;
+mod cicp;
+mod dtim;
+mod meas;
+mod sig;
+mod view;
+mod window;
+mod xyz;
+
+pub use chad::ChadAnswer;
+pub use chad::ChadMatrix;
+pub use chad::read_chad_tag;
+pub use cicp::CicpAnswer;
+pub use cicp::CicpCodes;
+pub use cicp::full_range;
+pub use cicp::read_cicp_tag;
+pub use dtim::DateAnswer;
+pub use dtim::DateBytes;
+pub use dtim::read_date_time_tag;
+pub use meas::MeasAnswer;
+pub use meas::Measurement;
+pub use meas::read_meas_tag;
+pub use sig::SigAnswer;
+pub use sig::read_tech_tag;
+pub use view::ViewAnswer;
+pub use view::ViewingConditions;
+pub use view::read_viewing_conditions;
+pub use xyz::XyzAnswer;
+pub use xyz::XyzNumber;
+pub use xyz::read_xyz_tag;

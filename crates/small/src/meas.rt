@@ -1,0 +1,71 @@
+// `meas`: read_meas_tag of moxcms.
+use crate::window;
+use crate::window::Found;
+use crate::xyz;
+use crate::xyz::XyzNumber;
+use fields::Entry;
+use fields::InTag;
+use fields::Kind;
+use fields::Place;
+use fields::Refusal;
+use fields::TAG_SIZE;
+ghost use mathlib.Core.Path.{_≡_};
+ghost use Rattle.small.specs.Answer.{measured, paperMeas};
+ghost use Rattle.small.specs.Layout.{measurement};
+ghost use Rattle.small.specs.Small.{windowOf, measOf};
+
+// Observer, backing, geometry, flare and illuminant, as they stand.
+pub struct Measurement {
+    pub observer: u32,
+    pub backing: XyzNumber,
+    pub geometry: u32,
+    pub flare: u32,
+    pub illuminant: u32,
+}
+
+pub enum MeasAnswer {
+    Value(Measurement),
+    Absent,
+    Refused(Refusal),
+}
+
+fn measurement_at(bytes: &[u8]) -> Measurement
+    ensures { λ r. ⌜ measured r ≡ measurement (now (bytes .entry)) ⌝ }
+{
+    let observer = fields::u32_at(bytes, InTag(8));
+    let backing = xyz::xyz_at(bytes, 12);
+    let geometry = fields::u32_at(bytes, InTag(24));
+    let flare = fields::u32_at(bytes, InTag(28));
+    let illuminant = fields::u32_at(bytes, InTag(32));
+    Measurement {
+        observer,
+        backing,
+        geometry,
+        flare,
+        illuminant,
+    }
+}
+
+// The 36 bytes of a measurement, wherever the tag ends.
+fn read_bytes(profile: &[u8], entry: Entry) -> MeasAnswer
+    ensures { λ r. ⌜ paperMeas r ≡ windowOf (now (profile .entry)) (entry .0) ⌝ }
+{
+    let place = fields::locate(profile, entry, InTag(36));
+    let Place::In { from, to } = place else {
+        return MeasAnswer::Refused(Refusal::PastProfile);
+    };
+    MeasAnswer::Value(measurement_at(&profile[from..to]))
+}
+
+// The measurement whose tag stands at `entry`, of `size` bytes. As in the Rust a tag of 12 to 35 bytes is read past its size.
+pub fn read_meas_tag(profile: &[u8], entry: Entry, size: u32) -> MeasAnswer
+    ensures { λ r. ⌜ paperMeas r ≡ measOf (now (profile .entry)) (entry .0) size ⌝ }
+{
+    let found = window::find(profile, entry, size, TAG_SIZE, size, Kind::MEAS);
+    match found {
+        Found::Short => MeasAnswer::Absent,
+        Found::Past => MeasAnswer::Refused(Refusal::PastProfile),
+        Found::Other => MeasAnswer::Absent,
+        Found::Tag { from: _, to: _ } => read_bytes(profile, entry),
+    }
+}

@@ -1,0 +1,33 @@
+// `sig `: read_tech_tag of moxcms.
+use crate::window;
+use crate::window::Found;
+use fields::Entry;
+use fields::InTag;
+use fields::Kind;
+use fields::Refusal;
+use fields::TAG_SIZE;
+ghost use mathlib.Core.Path.{_≡_};
+ghost use Rattle.small.specs.Answer.{paperSig};
+ghost use Rattle.small.specs.Small.{sigOf};
+
+pub enum SigAnswer {
+    Value { signature: u32 },
+    Absent,
+    Refused(Refusal),
+}
+
+// The signature in the tag at `entry`, of `size` bytes. Too short comes before past the profile.
+pub fn read_tech_tag(profile: &[u8], entry: Entry, size: u32) -> SigAnswer
+    ensures { λ r. ⌜ paperSig r ≡ sigOf (now (profile .entry)) (entry .0) size ⌝ }
+{
+    let found = window::find(profile, entry, size, TAG_SIZE, size, Kind::SIG);
+    match found {
+        Found::Short => SigAnswer::Refused(Refusal::TagTooShort),
+        Found::Past => SigAnswer::Refused(Refusal::PastProfile),
+        Found::Other => SigAnswer::Absent,
+        Found::Tag { from, to } => {
+            let signature = fields::u32_at(&profile[from..to], InTag(8));
+            SigAnswer::Value { signature }
+        }
+    }
+}

@@ -1,0 +1,52 @@
+// `view`: read_viewing_conditions of moxcms.
+use crate::window;
+use crate::window::Found;
+use crate::xyz;
+use crate::xyz::XyzNumber;
+use fields::Entry;
+use fields::InTag;
+use fields::Kind;
+use fields::Refusal;
+ghost use mathlib.Core.Path.{_≡_};
+ghost use Rattle.small.specs.Answer.{viewed, paperView};
+ghost use Rattle.small.specs.Layout.{conditions};
+ghost use Rattle.small.specs.Small.{viewOf};
+
+// Illuminant and surround, and the number at byte 32: the illuminant's type by the standard, which the Rust takes for an observer.
+pub struct ViewingConditions {
+    pub illuminant: XyzNumber,
+    pub surround: XyzNumber,
+    pub number: u32,
+}
+
+pub enum ViewAnswer {
+    Value(ViewingConditions),
+    Absent,
+    Refused(Refusal),
+}
+
+fn conditions_at(bytes: &[u8]) -> ViewingConditions
+    ensures { λ r. ⌜ viewed r ≡ conditions (now (bytes .entry)) ⌝ }
+{
+    let illuminant = xyz::xyz_at(bytes, 8);
+    let surround = xyz::xyz_at(bytes, 20);
+    let number = fields::u32_at(bytes, InTag(32));
+    ViewingConditions {
+        illuminant,
+        surround,
+        number,
+    }
+}
+
+// The viewing conditions whose tag stands at `entry`. Its first 36 bytes are read; where `size` says that it ends is not looked at.
+pub fn read_viewing_conditions(profile: &[u8], entry: Entry, size: u32) -> ViewAnswer
+    ensures { λ r. ⌜ paperView r ≡ viewOf (now (profile .entry)) (entry .0) size ⌝ }
+{
+    let found = window::find(profile, entry, size, 36, 36, Kind::VIEW);
+    match found {
+        Found::Short => ViewAnswer::Absent,
+        Found::Past => ViewAnswer::Refused(Refusal::PastProfile),
+        Found::Other => ViewAnswer::Absent,
+        Found::Tag { from, to } => ViewAnswer::Value(conditions_at(&profile[from..to])),
+    }
+}

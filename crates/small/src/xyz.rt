@@ -1,0 +1,60 @@
+// `XYZ `: read_xyz_tag of moxcms.
+use crate::window;
+use crate::window::Found;
+use fields::Entry;
+use fields::InTag;
+use fields::Kind;
+use fields::Refusal;
+use fields::TAG_SIZE;
+ghost use mathlib.Core.Path.{_≡_};
+ghost use Rattle.fields.specs.Bytes.{wordsAt};
+ghost use Rattle.small.specs.Answer.{triple, paperXyz};
+ghost use Rattle.small.specs.Small.{tripleOf, xyzOf};
+
+// Three signed words in two's complement.
+pub struct XyzNumber {
+    pub x: u32,
+    pub y: u32,
+    pub z: u32,
+}
+
+// What `read_xyz_tag` answers. `Default` stands for three zeros, which are not read from the profile.
+pub enum XyzAnswer {
+    Value(XyzNumber),
+    Default,
+    Refused(Refusal),
+}
+
+// The three numbers from `at` on.
+pub(crate) fn xyz_at(tag: &[u8], at: u32) -> XyzNumber
+    ensures { λ r. ⌜ triple r ≡ wordsAt (now (tag .entry)) at 3 ⌝ }
+{
+    XyzNumber {
+        x: fields::u32_at(tag, InTag(at as u64)),
+        y: fields::u32_at(tag, InTag(at as u64 + 4)),
+        z: fields::u32_at(tag, InTag(at as u64 + 8)),
+    }
+}
+
+// A tag of this type, which may be too short for its numbers.
+fn read_triple(tag: &[u8]) -> XyzAnswer
+    ensures { λ r. ⌜ paperXyz r ≡ tripleOf (now (tag .entry)) ⌝ }
+{
+    if tag.len() < 20 {
+        return XyzAnswer::Refused(Refusal::TagTooShort);
+    }
+    XyzAnswer::Value(xyz_at(tag, 8))
+}
+
+// The first XYZNumber of the tag at `entry`, of `size` bytes.
+pub fn read_xyz_tag(profile: &[u8], entry: Entry, size: u32) -> XyzAnswer
+    ensures { λ r. ⌜ paperXyz r ≡ xyzOf (now (profile .entry)) (entry .0) size ⌝ }
+{
+    let found = window::find(profile, entry, size, TAG_SIZE, size, Kind::XYZ);
+    match found {
+        Found::Short => XyzAnswer::Default,
+        Found::Past => XyzAnswer::Refused(Refusal::PastProfile),
+        Found::Other => XyzAnswer::Default,
+        Found::Tag { from, to } => read_triple(&profile[from..to]),
+    }
+}
