@@ -1,13 +1,13 @@
 -- The reader of lookup tables, case by case, as the code meets it: each law gives what is answered and what is left of the slots.
 -- Assumes nothing.
-use Prim.Native.Nat.{ℕ, _+_, _-_, _*_, _/_, _^_, _≤_, _<_}
+use Prim.Native.Nat.{ℕ, _+_, _-_, _*_, _/_, _≤_, _<_}
 use native.Mathlib.Omega.{arith}
 use mathlib.Core.Path.{_≡_, refl, sym, _∙_, ap}
 use mathlib.Core.Bool.{Bool, true, false, _&&_}
 use mathlib.Core.List.{List, [], _∷_, _++_}
 use mathlib.Core.Logic.{inl, inr}
 use lib.Dec.{ltb}
-use lib.ListN.{length, getD, take, drop, replicate, length-take}
+use lib.ListN.{length, getD, take, drop, replicate}
 use types.Run.{OneOf}
 use denote.Enum.Declared.{tagOf as placeIn}
 use borrow.Author.Tests.{eq-eqb, ne-eqb, lt-ltb, le-ltb}
@@ -233,9 +233,3 @@ module _ (walk : Walk) (limit points : ℕ) (p s : List ℕ) (entry size end : �
         let i = inside _ _ _ h e in
         let same-tag : take (to - from) (drop from p) ≡ tagOf p entry size = rw (i .from-is, i .to-is, part-is p entry end, n) in
         same walk limit _ s _ r _ s' (rw (← n, le-ltb _ _ (i .fits), le-ltb _ _ l, n)) (rw same-tag at g)
-
--- a tag is shorter than 2^32
-pub tag-short : (p : List ℕ) (entry end from to : ℕ) (place : Place) → place ≡ placeOf (length p) entry end → place ≡ In from to → end < 2 ^ 32 → length (take (to - from) (drop from p)) < 2 ^ 32
-tag-short p entry end from to place h e l =
-    let i = inside _ _ _ h e in
-    omega (arith, length-take (to - from) (drop from p))

@@ -1,7 +1,7 @@
 -- `lut::read_lut_tag` meets its contract: each way out is a law of `lutOf`, and a part lies where `locate` found it.
 -- Assumes nothing.
-use Rattle.lut.proofs.Laws.{lut-past, lut-short, lut-kind, tag-short}
-use Rattle.fields.proofs.Located.{begins, starts, ends}
+use Rattle.lut.proofs.Laws.{lut-past, lut-short, lut-kind}
+use Rattle.fields.proofs.Located.{begins, starts, ends, part-below}
 use borrow.Author.Needs.{needs}
 use Rattle.lut.proofs.read_lut_tag.Statement.{statement}
 use Rattle.lut.proofs.read_lut_tag.Tie as tie
@@ -22,6 +22,6 @@ read-lut-tag-spec =
     (λ c. search (needs, begins, starts, ends))
     (λ c. search (needs, begins, starts, ends))
     (λ c. search (needs, begins, starts, ends))
-    (λ c κs. search (needs, tag-short, begins, starts, ends))
+    (λ c κs. search (needs, part-below, begins, starts, ends))
     (λ c. search needs)
     (λ c. search (needs, lut-kind)))
