@@ -43,10 +43,11 @@ fn run_job(job: StreamJob, profile: &mut [u8], words: &mut [u32], line: &mut [u8
     if io::read_full(0, &mut profile[..length]) < length {
         return false;
     }
-    let end = answer_job(&profile[..length], job, &mut words[..lent], line);
-    if end == 0 {
+    let said = answer_job(&profile[..length], job, &mut words[..lent], line);
+    if said == 0 {
         return false;
     }
+    let end = lines::put(line, said, b"\n");
     if line.len() < end {
         return false;
     }

@@ -1,5 +1,4 @@
 // Readers 4 to 10: the small readers.
-use crate::tables;
 use crate::told;
 use fields::Entry;
 use jobs::StreamJob;
@@ -16,10 +15,6 @@ use small::ViewAnswer;
 use small::ViewingConditions;
 use small::XyzAnswer;
 use small::XyzNumber;
-
-fn put_absent(line: &mut [u8]) -> usize {
-    lines::put(line, 0, b"absent")
-}
 
 fn put_value(line: &mut [u8]) -> usize {
     lines::put(line, 0, b"value")
@@ -46,18 +41,13 @@ fn put_matrix(line: &mut [u8], m: ChadMatrix) -> usize {
     lines::put_words(line, value, &nine)
 }
 
-fn put_chad(line: &mut [u8], got: ChadAnswer) -> usize {
-    match got {
-        ChadAnswer::Value(m) => put_matrix(line, m),
-        ChadAnswer::Absent => put_absent(line),
-        ChadAnswer::Refused(why) => told::put_refused(line, why),
-    }
-}
-
 pub(crate) fn chad(profile: &[u8], job: StreamJob, line: &mut [u8]) -> usize {
     let got = small::read_chad_tag(profile, Entry(job.offset), job.size);
-    let end = put_chad(line, got);
-    lines::put(line, end, b"\n")
+    match got {
+        ChadAnswer::Value(m) => put_matrix(line, m),
+        ChadAnswer::Absent => told::put_absent(line),
+        ChadAnswer::Refused(why) => told::put_refused(line, why),
+    }
 }
 
 fn put_signature(line: &mut [u8], signature: u32) -> usize {
@@ -65,18 +55,13 @@ fn put_signature(line: &mut [u8], signature: u32) -> usize {
     lines::put_number(line, value, b' ', signature as u64)
 }
 
-fn put_sig(line: &mut [u8], got: SigAnswer) -> usize {
-    match got {
-        SigAnswer::Value { signature } => put_signature(line, signature),
-        SigAnswer::Absent => put_absent(line),
-        SigAnswer::Refused(why) => told::put_refused(line, why),
-    }
-}
-
 pub(crate) fn sig(profile: &[u8], job: StreamJob, line: &mut [u8]) -> usize {
     let got = small::read_tech_tag(profile, Entry(job.offset), job.size);
-    let end = put_sig(line, got);
-    lines::put(line, end, b"\n")
+    match got {
+        SigAnswer::Value { signature } => put_signature(line, signature),
+        SigAnswer::Absent => told::put_absent(line),
+        SigAnswer::Refused(why) => told::put_refused(line, why),
+    }
 }
 
 fn put_date(line: &mut [u8], d: DateBytes) -> usize {
@@ -95,21 +80,16 @@ fn put_date(line: &mut [u8], d: DateBytes) -> usize {
         d.byte19,
     ];
     let value = put_value(line);
-    tables::put_bytes(line, value, &twelve)
-}
-
-fn put_dtim(line: &mut [u8], got: DateAnswer) -> usize {
-    match got {
-        DateAnswer::Value(d) => put_date(line, d),
-        DateAnswer::Absent => put_absent(line),
-        DateAnswer::Refused(why) => told::put_refused(line, why),
-    }
+    told::put_bytes(line, value, &twelve)
 }
 
 pub(crate) fn dtim(profile: &[u8], job: StreamJob, line: &mut [u8]) -> usize {
     let got = small::read_date_time_tag(profile, Entry(job.offset), job.size);
-    let end = put_dtim(line, got);
-    lines::put(line, end, b"\n")
+    match got {
+        DateAnswer::Value(d) => put_date(line, d),
+        DateAnswer::Absent => told::put_absent(line),
+        DateAnswer::Refused(why) => told::put_refused(line, why),
+    }
 }
 
 // Observer and backing.
@@ -127,18 +107,13 @@ fn put_measurement(line: &mut [u8], m: Measurement) -> usize {
     lines::put_number(line, flare, b' ', m.illuminant as u64)
 }
 
-fn put_meas(line: &mut [u8], got: MeasAnswer) -> usize {
-    match got {
-        MeasAnswer::Value(m) => put_measurement(line, m),
-        MeasAnswer::Absent => put_absent(line),
-        MeasAnswer::Refused(why) => told::put_refused(line, why),
-    }
-}
-
 pub(crate) fn meas(profile: &[u8], job: StreamJob, line: &mut [u8]) -> usize {
     let got = small::read_meas_tag(profile, Entry(job.offset), job.size);
-    let end = put_meas(line, got);
-    lines::put(line, end, b"\n")
+    match got {
+        MeasAnswer::Value(m) => put_measurement(line, m),
+        MeasAnswer::Absent => told::put_absent(line),
+        MeasAnswer::Refused(why) => told::put_refused(line, why),
+    }
 }
 
 fn put_conditions(line: &mut [u8], v: ViewingConditions) -> usize {
@@ -150,21 +125,17 @@ fn put_conditions(line: &mut [u8], v: ViewingConditions) -> usize {
     lines::put_number(line, second, b' ', v.number as u64)
 }
 
-fn put_view(line: &mut [u8], got: ViewAnswer) -> usize {
+pub(crate) fn view(profile: &[u8], job: StreamJob, line: &mut [u8]) -> usize {
+    let got = small::read_viewing_conditions(profile, Entry(job.offset), job.size);
     match got {
         ViewAnswer::Value(v) => put_conditions(line, v),
-        ViewAnswer::Absent => put_absent(line),
+        ViewAnswer::Absent => told::put_absent(line),
         ViewAnswer::Refused(why) => told::put_refused(line, why),
     }
 }
 
-pub(crate) fn view(profile: &[u8], job: StreamJob, line: &mut [u8]) -> usize {
-    let got = small::read_viewing_conditions(profile, Entry(job.offset), job.size);
-    let end = put_view(line, got);
-    lines::put(line, end, b"\n")
-}
-
-fn put_xyz_answer(line: &mut [u8], got: XyzAnswer) -> usize {
+pub(crate) fn xyz(profile: &[u8], job: StreamJob, line: &mut [u8]) -> usize {
+    let got = small::read_xyz_tag(profile, Entry(job.offset), job.size);
     match got {
         XyzAnswer::Value(n) => {
             let value = put_value(line);
@@ -175,28 +146,17 @@ fn put_xyz_answer(line: &mut [u8], got: XyzAnswer) -> usize {
     }
 }
 
-pub(crate) fn xyz(profile: &[u8], job: StreamJob, line: &mut [u8]) -> usize {
-    let got = small::read_xyz_tag(profile, Entry(job.offset), job.size);
-    let end = put_xyz_answer(line, got);
-    lines::put(line, end, b"\n")
-}
-
 fn put_codes(line: &mut [u8], c: CicpCodes) -> usize {
     let four = [c.primaries, c.transfer, c.matrix, c.range];
     let value = put_value(line);
-    tables::put_bytes(line, value, &four)
-}
-
-fn put_cicp(line: &mut [u8], got: CicpAnswer) -> usize {
-    match got {
-        CicpAnswer::Value(c) => put_codes(line, c),
-        CicpAnswer::Absent => put_absent(line),
-        CicpAnswer::Refused(why) => told::put_refused(line, why),
-    }
+    told::put_bytes(line, value, &four)
 }
 
 pub(crate) fn cicp(profile: &[u8], job: StreamJob, line: &mut [u8]) -> usize {
     let got = small::read_cicp_tag(profile, Entry(job.offset), job.size);
-    let end = put_cicp(line, got);
-    lines::put(line, end, b"\n")
+    match got {
+        CicpAnswer::Value(c) => put_codes(line, c),
+        CicpAnswer::Absent => told::put_absent(line),
+        CicpAnswer::Refused(why) => told::put_refused(line, why),
+    }
 }

@@ -2,26 +2,11 @@
 use crate::told;
 use curve::Walk;
 use fields::Entry;
-use fields::InTag;
 use jobs::StreamJob;
 use lut::AbmTable;
 use lut::Lut;
 use lut::LutAnswer;
 use mft::MftTable;
-
-fn wide8(x: u8) -> u64 {
-    x as u64
-}
-
-pub(crate) fn put_bytes(line: &mut [u8], at: usize, bytes: &[u8]) -> usize {
-    let mut end = at;
-    let mut i = 0;
-    while i < bytes.len() {
-        end = lines::put_number(line, end, b' ', wide8(bytes[i]));
-        i += 1;
-    }
-    end
-}
 
 // `mft1` or `mft2`, by the bytes of an entry.
 fn put_mft_kind(line: &mut [u8], entry_size: u8) -> usize {
@@ -45,19 +30,14 @@ fn put_mft_entries(line: &mut [u8], at: usize, t: MftTable) -> usize {
     lines::put_number(line, first, b' ', t.output_entries as u64)
 }
 
-fn put_range(line: &mut [u8], at: usize, start: InTag, length: u64) -> usize {
-    let from = lines::put_number(line, at, b' ', start.0);
-    lines::put_number(line, from, b' ', length)
-}
-
 // Where the three tables lie.
 fn put_mft_tables(line: &mut [u8], at: usize, t: MftTable) -> usize {
     let input_start = t.input_start;
     let clut_start = t.clut_start;
     let output_start = t.output_start;
-    let input = put_range(line, at, input_start, t.input_length);
-    let clut = put_range(line, input, clut_start, t.clut_length);
-    put_range(line, clut, output_start, t.output_length)
+    let input = told::put_range(line, at, input_start, t.input_length);
+    let clut = told::put_range(line, input, clut_start, t.clut_length);
+    told::put_range(line, clut, output_start, t.output_length)
 }
 
 fn put_kind(line: &mut [u8], to_pcs: bool) -> usize {
@@ -73,13 +53,13 @@ fn put_head(line: &mut [u8], t: AbmTable, grid: &[u8]) -> usize {
     let kind = put_kind(line, t.to_pcs);
     let inputs = lines::put_number(line, kind, b' ', t.inputs as u64);
     let outputs = lines::put_number(line, inputs, b' ', t.outputs as u64);
-    put_bytes(line, outputs, grid)
+    told::put_bytes(line, outputs, grid)
 }
 
 // Where the colour table's data lie, and the bytes of an entry.
 fn put_clut(line: &mut [u8], at: usize, t: AbmTable) -> usize {
     let start = t.clut_start;
-    let range = put_range(line, at, start, t.clut_length as u64);
+    let range = told::put_range(line, at, start, t.clut_length as u64);
     lines::put_number(line, range, b' ', t.entry_size as u64)
 }
 
@@ -113,7 +93,7 @@ fn put_answer(line: &mut [u8], got: Lut) -> usize {
             let clut = put_clut(line, numbers, t);
             put_runs(line, clut, t)
         }
-        LutAnswer::Absent => lines::put(line, 0, b"absent"),
+        LutAnswer::Absent => told::put_absent(line),
         LutAnswer::Refused(why) => told::put_refused(line, why),
     }
 }
@@ -136,5 +116,5 @@ pub(crate) fn answer(
         words,
     );
     let said = put_answer(line, got);
-    told::end_with_lent(line, said, words)
+    told::put_lent(line, said, words)
 }

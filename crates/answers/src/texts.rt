@@ -6,24 +6,23 @@ use text::Description;
 use text::Range;
 use text::TextAnswer;
 
-fn put_range(line: &mut [u8], at: usize, r: Range) -> usize {
-    let first = r.start;
-    let start = lines::put_number(line, at, b' ', first.0);
-    lines::put_number(line, start, b' ', r.length as u64)
+fn put_string(line: &mut [u8], at: usize, r: Range) -> usize {
+    let start = r.start;
+    told::put_range(line, at, start, r.length as u64)
 }
 
 fn put_text(line: &mut [u8], r: Range) -> usize {
     let word = lines::put(line, 0, b"value text");
-    put_range(line, word, r)
+    put_string(line, word, r)
 }
 
 fn put_description(line: &mut [u8], d: Description) -> usize {
     let word = lines::put(line, 0, b"value desc");
     let ascii = d.ascii;
     let unicode = d.unicode;
-    let first = put_range(line, word, ascii);
+    let first = put_string(line, word, ascii);
     let language = lines::put_number(line, first, b' ', d.language as u64);
-    put_range(line, language, unicode)
+    put_string(line, language, unicode)
 }
 
 fn put_records(line: &mut [u8], records: u32) -> usize {
@@ -36,7 +35,7 @@ fn put_answer(line: &mut [u8], got: TextAnswer) -> usize {
         TextAnswer::Text(r) => put_text(line, r),
         TextAnswer::Desc(d) => put_description(line, d),
         TextAnswer::Mluc { records } => put_records(line, records),
-        TextAnswer::Absent => lines::put(line, 0, b"absent"),
+        TextAnswer::Absent => told::put_absent(line),
         TextAnswer::Refused(why) => told::put_refused(line, why),
     }
 }
@@ -45,5 +44,5 @@ pub(crate) fn answer(profile: &[u8], job: StreamJob, words: &mut [u32], line: &m
     told::mark(words);
     let got = text::read_string_tag(profile, Entry(job.offset), job.size, words);
     let said = put_answer(line, got);
-    told::end_with_lent(line, said, words)
+    told::put_lent(line, said, words)
 }

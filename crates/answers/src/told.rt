@@ -1,9 +1,33 @@
-// What the answers of all readers share.
+// What the answers of all readers share. A line's end is put behind it by the caller.
+use fields::InTag;
 use fields::Refusal;
+
+pub(crate) fn put_absent(line: &mut [u8]) -> usize {
+    lines::put(line, 0, b"absent")
+}
 
 pub(crate) fn put_refused(line: &mut [u8], why: Refusal) -> usize {
     let word = lines::put(line, 0, b"refused");
     lines::put_number(line, word, b' ', why.number() as u64)
+}
+
+fn wide8(x: u8) -> u64 {
+    x as u64
+}
+
+pub(crate) fn put_bytes(line: &mut [u8], at: usize, bytes: &[u8]) -> usize {
+    let mut end = at;
+    let mut i = 0;
+    while i < bytes.len() {
+        end = lines::put_number(line, end, b' ', wide8(bytes[i]));
+        i += 1;
+    }
+    end
+}
+
+pub(crate) fn put_range(line: &mut [u8], at: usize, start: InTag, length: u64) -> usize {
+    let from = lines::put_number(line, at, b' ', start.0);
+    lines::put_number(line, from, b' ', length)
 }
 
 // Word i is 0xA5A50000 + i before the call.
@@ -19,7 +43,7 @@ fn wide32(x: u32) -> u64 {
     x as u64
 }
 
-fn put_lent(line: &mut [u8], at: usize, words: &[u32]) -> usize {
+fn put_each(line: &mut [u8], at: usize, words: &[u32]) -> usize {
     let mut end = at;
     let mut i = 0;
     while i < words.len() {
@@ -29,9 +53,8 @@ fn put_lent(line: &mut [u8], at: usize, words: &[u32]) -> usize {
     end
 }
 
-// Ends a line with the lent words, as they are after the call.
-pub(crate) fn end_with_lent(line: &mut [u8], at: usize, words: &[u32]) -> usize {
+// Puts the lent words behind an answer, as they are after the call.
+pub(crate) fn put_lent(line: &mut [u8], at: usize, words: &[u32]) -> usize {
     let bar = lines::put(line, at, b" |");
-    let end = put_lent(line, bar, words);
-    lines::put(line, end, b"\n")
+    put_each(line, bar, words)
 }

@@ -1,24 +1,25 @@
--- `answers::tables::put_bytes` is safe and ends: each turn leaves fewer.
+-- `answers::told::put_each` is safe and ends: each turn leaves fewer.
 -- Assumes nothing.
 use Prim.Native.Nat.{_-_}
 use mathlib.Core.Path.{_≡_}
 use lib.ListN.{length}
 use borrow.Author.Needs.{needs}
-use Rattle.answers.proofs.tables.put_bytes.Statement.{statement}
-use Rattle.answers.proofs.tables.put_bytes.Tie as tie
+use Rattle.answers.proofs.told.put_each.Statement.{statement}
+use Rattle.answers.proofs.told.put_each.Tie as tie
 
 abbrev Inv-loop : tie.InvT-loop
-Inv-loop line₀ at bytes end₀ i₀ line end i = length line ≡ length line₀
+Inv-loop line₀ at words end₀ i₀ line end i = length line ≡ length line₀
 
 abbrev μ-loop : tie.MeasureT-loop
-μ-loop line₀ at bytes end₀ i₀ line end i = length bytes - i
+μ-loop line₀ at words end₀ i₀ line end i = length words - i
 
-pub put-bytes-spec : {M : Type 1} → statement M
-put-bytes-spec =
+pub put-each-spec : {M : Type 1} → statement M
+put-each-spec =
     tie.close
     (tie.spec
     Inv-loop
     μ-loop
+    (λ c. search needs)
     (λ c. search needs)
     (λ c. search needs)
     (λ c. search needs)
