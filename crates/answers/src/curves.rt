@@ -7,7 +7,7 @@ use fields::Entry;
 use jobs::StreamJob;
 
 fn put_curve(line: &mut [u8], curve: CurveRecord, consumed: u64) -> usize {
-    let word = lines::put(line, 0, b"value");
+    let word = told::put_value(line);
     let record = jobs::put_record(line, word, b' ', curve);
     lines::put_number(line, record, b' ', consumed)
 }

@@ -16,10 +16,6 @@ use small::ViewingConditions;
 use small::XyzAnswer;
 use small::XyzNumber;
 
-fn put_value(line: &mut [u8]) -> usize {
-    lines::put(line, 0, b"value")
-}
-
 fn put_xyz(line: &mut [u8], at: usize, n: XyzNumber) -> usize {
     let three = [n.x, n.y, n.z];
     lines::put_words(line, at, &three)
@@ -37,7 +33,7 @@ fn put_matrix(line: &mut [u8], m: ChadMatrix) -> usize {
         m.e21,
         m.e22,
     ];
-    let value = put_value(line);
+    let value = told::put_value(line);
     lines::put_words(line, value, &nine)
 }
 
@@ -50,15 +46,13 @@ pub(crate) fn chad(profile: &[u8], job: StreamJob, line: &mut [u8]) -> usize {
     }
 }
 
-fn put_signature(line: &mut [u8], signature: u32) -> usize {
-    let value = put_value(line);
-    lines::put_number(line, value, b' ', signature as u64)
-}
-
 pub(crate) fn sig(profile: &[u8], job: StreamJob, line: &mut [u8]) -> usize {
     let got = small::read_tech_tag(profile, Entry(job.offset), job.size);
     match got {
-        SigAnswer::Value { signature } => put_signature(line, signature),
+        SigAnswer::Value { signature } => {
+            let value = told::put_value(line);
+            lines::put_number(line, value, b' ', signature as u64)
+        }
         SigAnswer::Absent => told::put_absent(line),
         SigAnswer::Refused(why) => told::put_refused(line, why),
     }
@@ -79,7 +73,7 @@ fn put_date(line: &mut [u8], d: DateBytes) -> usize {
         d.byte18,
         d.byte19,
     ];
-    let value = put_value(line);
+    let value = told::put_value(line);
     told::put_bytes(line, value, &twelve)
 }
 
@@ -92,19 +86,13 @@ pub(crate) fn dtim(profile: &[u8], job: StreamJob, line: &mut [u8]) -> usize {
     }
 }
 
-// Observer and backing.
-fn put_observed(line: &mut [u8], m: Measurement) -> usize {
-    let backing = m.backing;
-    let value = put_value(line);
-    let observer = lines::put_number(line, value, b' ', m.observer as u64);
-    put_xyz(line, observer, backing)
-}
-
 fn put_measurement(line: &mut [u8], m: Measurement) -> usize {
-    let observed = put_observed(line, m);
-    let geometry = lines::put_number(line, observed, b' ', m.geometry as u64);
-    let flare = lines::put_number(line, geometry, b' ', m.flare as u64);
-    lines::put_number(line, flare, b' ', m.illuminant as u64)
+    let backing = m.backing;
+    let behind = [m.geometry as u64, m.flare as u64, m.illuminant as u64];
+    let value = told::put_value(line);
+    let observer = lines::put_number(line, value, b' ', m.observer as u64);
+    let three = put_xyz(line, observer, backing);
+    told::put_numbers(line, three, &behind)
 }
 
 pub(crate) fn meas(profile: &[u8], job: StreamJob, line: &mut [u8]) -> usize {
@@ -119,7 +107,7 @@ pub(crate) fn meas(profile: &[u8], job: StreamJob, line: &mut [u8]) -> usize {
 fn put_conditions(line: &mut [u8], v: ViewingConditions) -> usize {
     let illuminant = v.illuminant;
     let surround = v.surround;
-    let value = put_value(line);
+    let value = told::put_value(line);
     let first = put_xyz(line, value, illuminant);
     let second = put_xyz(line, first, surround);
     lines::put_number(line, second, b' ', v.number as u64)
@@ -138,7 +126,7 @@ pub(crate) fn xyz(profile: &[u8], job: StreamJob, line: &mut [u8]) -> usize {
     let got = small::read_xyz_tag(profile, Entry(job.offset), job.size);
     match got {
         XyzAnswer::Value(n) => {
-            let value = put_value(line);
+            let value = told::put_value(line);
             put_xyz(line, value, n)
         }
         XyzAnswer::Default => lines::put(line, 0, b"default"),
@@ -148,7 +136,7 @@ pub(crate) fn xyz(profile: &[u8], job: StreamJob, line: &mut [u8]) -> usize {
 
 fn put_codes(line: &mut [u8], c: CicpCodes) -> usize {
     let four = [c.primaries, c.transfer, c.matrix, c.range];
-    let value = put_value(line);
+    let value = told::put_value(line);
     told::put_bytes(line, value, &four)
 }
 

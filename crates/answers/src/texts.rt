@@ -6,23 +6,27 @@ use text::Description;
 use text::Range;
 use text::TextAnswer;
 
-fn put_string(line: &mut [u8], at: usize, r: Range) -> usize {
-    let start = r.start;
-    told::put_range(line, at, start, r.length as u64)
-}
-
 fn put_text(line: &mut [u8], r: Range) -> usize {
+    let start = r.start;
+    let numbers = [start.0, r.length as u64];
     let word = lines::put(line, 0, b"value text");
-    put_string(line, word, r)
+    told::put_numbers(line, word, &numbers)
 }
 
 fn put_description(line: &mut [u8], d: Description) -> usize {
-    let word = lines::put(line, 0, b"value desc");
     let ascii = d.ascii;
     let unicode = d.unicode;
-    let first = put_string(line, word, ascii);
-    let language = lines::put_number(line, first, b' ', d.language as u64);
-    put_string(line, language, unicode)
+    let first = ascii.start;
+    let second = unicode.start;
+    let numbers = [
+        first.0,
+        ascii.length as u64,
+        d.language as u64,
+        second.0,
+        unicode.length as u64,
+    ];
+    let word = lines::put(line, 0, b"value desc");
+    told::put_numbers(line, word, &numbers)
 }
 
 fn put_records(line: &mut [u8], records: u32) -> usize {
