@@ -19,6 +19,12 @@ pub struct TableNumbers {
     pub grid_step: u8,
 }
 
+// A lent tag and the numbers of its colour table.
+pub struct TableView<'a> {
+    pub tag: &'a [u8],
+    pub numbers: TableNumbers,
+}
+
 // What is read at a grid index: the entry as it is stored, in one byte or two.
 pub enum EntryAnswer {
     Value(u16),
@@ -171,4 +177,18 @@ pub fn entry_at(tag: &[u8], numbers: TableNumbers, index: &[u8], channel: u8) ->
     }
     let number = append(point, numbers.outputs, channel);
     read_entry(tag, start, numbers.entry_size, number)
+}
+
+// The view of a tag and of the numbers of its answer.
+pub fn view_of<'a>(tag: &'a [u8], numbers: TableNumbers) -> TableView<'a>
+    ensures { λ r. ⌜ (r .tag ≡ tag .entry) × (r .numbers ≡ numbers) ⌝ }
+{
+    TableView { tag, numbers }
+}
+
+// The entry of a grid index and an output channel, of the table that the view shows.
+pub fn look_up<'a, 'b>(view: TableView<'a>, index: &'b [u8], channel: u8) -> EntryAnswer
+    ensures { λ r. ⌜ paper r ≡ entryOf (now (view .entry .tag)) (tableBy (now (view .entry .tag)) (view .entry .numbers)) (now (index .entry)) channel ⌝ }
+{
+    entry_at(view.tag, view.numbers, index, channel)
 }
