@@ -14,6 +14,15 @@ use Rattle.clut.specs.Table.{Table, inGrid, pointOf, numberOf}
 use Rattle.table.specs.Answer.{Told, value, absent}
 use Rattle.table.specs.View.{storedAt, entryFrom, entryOf}
 
+-- where two tests hold together, each does
+first-holds : (a b : Bool) → a && b ≡ true → a ≡ true
+first-holds true b e = refl
+first-holds false b e = e
+
+pub second-holds : (a b : Bool) → a && b ≡ true → b ≡ true
+second-holds true b e = e
+second-holds false b e = absurd (false≢true e)
+
 module _ (t : List ℕ) (table : Table) (index : List ℕ) (channel : ℕ) where
   pub invalid-absent : inGrid (table .grid) index && ltb channel (table .outputs) ≡ false → entryOf t table index channel ≡ absent
   unfolding entryOf
@@ -56,19 +65,11 @@ module _ (t : List ℕ) (table : Table) (index : List ℕ) (channel : ℕ) where
       (λ z. each FoundAs (ltb (length t) (table .start + (k * s + s))) _ _ (λ _. nothing-found)
       (λ o n e.
       record {
-        in-grid = first (inGrid (table .grid) index) (ltb (pointOf (table .grid) index) (2 ^ 32)) (first (inGrid (table .grid) index && ltb (pointOf (table .grid) index) (2 ^ 32)) (ltb channel (table .outputs)) v);
-        low = ltb-true channel (table .outputs) (second (inGrid (table .grid) index && ltb (pointOf (table .grid) index) (2 ^ 32)) _ v);
+        in-grid = first-holds (inGrid (table .grid) index) (ltb (pointOf (table .grid) index) (2 ^ 32)) (first-holds (inGrid (table .grid) index && ltb (pointOf (table .grid) index) (2 ^ 32)) (ltb channel (table .outputs)) v);
+        low = ltb-true channel (table .outputs) (second-holds (inGrid (table .grid) index && ltb (pointOf (table .grid) index) (2 ^ 32)) _ v);
         size-least = ltb-false s 1 (neither-left (ltb s 1) (ltb 2 s) z);
         size-most = ltb-false 2 s (neither-right (ltb s 1) (ltb 2 s) z);
         in-tag = ltb-false (length t) _ o;
         is = cc;
       })))
       (λ _. nothing-found)
-    where
-      first : (a b : Bool) → a && b ≡ true → a ≡ true
-      first true b e = refl
-      first false b e = e
-
-      second : (a b : Bool) → a && b ≡ true → b ≡ true
-      second true b e = e
-      second false b e = absurd (false≢true e)
