@@ -1,3 +1,4 @@
 pub mod Answer
 pub mod View
 pub mod Order
+pub mod Cases

@@ -1,4 +1,4 @@
--- The order in which the standard stores the points of a grid (ICC.1:2022, 10.12.5): the first coordinate varies least rapidly, and the last
+-- The order in which the standard stores the points of a grid (ICC.1:2022, 10.10 to 10.13): the first coordinate varies least rapidly, and the last
 -- most rapidly.
 use Prim.Native.Nat.{ℕ, _<_}
 use mathlib.Core.Path.{_≡_}
