@@ -1,13 +1,13 @@
 -- Points are numbered in the order in which the standard stores them, and so are the entries: a point's entries stand side by side, and
 -- behind those of every point before it.
 -- Assumes nothing.
-use Prim.Native.Nat.{ℕ, _+_, _*_, _<_}
+use Prim.Native.Nat.{ℕ, _<_}
 use native.Mathlib.Omega.{arith}
 use native.Mathlib.Nat.{mul-le-mul-right}
 use mathlib.Core.Path.{_≡_}
 use mathlib.Core.Bool.{true, false≢true}
 use mathlib.Core.List.{List, [], _∷_}
-use mathlib.Core.Logic.{_⊎_, inl, inr}
+use mathlib.Core.Logic.{inl, inr}
 use lib.Dec.{ltb}
 use Rattle.clut.specs.Table.{Table, product, inGrid, pointOf, numberOf}
 use Rattle.clut.proofs.Grid.{point-below}

@@ -1,5 +1,6 @@
 -- The view of an accepted answer shows the colour table that the answer tells of, of `mAB ` and `mBA `, `mft1` and `mft2`: each valid index
--- reads the entry that the standard's order gives, which lies inside the table's range, and that inside the tag.
+-- reads the entry that the standard's order gives, which lies inside the table's range, and that inside the tag. The view of any other
+-- answer reads nothing.
 -- Assumes nothing.
 use Prim.Native.Nat.{ℕ, zero, suc, _+_, _-_, _*_, _^_, _≤_, _<_, min}
 use native.Mathlib.Omega.{arith}
@@ -21,14 +22,15 @@ use Rattle.mft.specs.Answer.{Fields, fieldsOf, toldTable as Mft·toldTable}
 use Rattle.mft.specs.Layout.{isWide, entrySize}
 use Rattle.mft.proofs.Conforms.{accepted as Mft·accepted}
 use Rattle.lut.specs.Abm.{noTable, tableOf, valueFrom, toldTable}
-use Rattle.lut.specs.Answer.{Abm, Answer, mft, abm}
+use Rattle.lut.specs.Answer.{Abm, State, Answer, mft, abm, absent as State·absent, refused}
 use Rattle.lut.specs.Layout.{inputs, outputs, clutOffset, gridOf}
 use Rattle.lut.specs.Lut.{tagOf, lutOf}
 use Rattle.lut.proofs.Accepted.{abm-found, mft-found}
 use Rattle.lut.proofs.Inside.{lut-inside, mft-inside}
-use Rattle.table.specs.Answer.{value}
+use Rattle.table.specs.Answer.{value, absent}
 use Rattle.table.specs.View.{gridFrom, tableBy, numbersOf, storedAt, entryFrom, entryOf}
 use Rattle.table.specs.declared.TableNumbers.{TableNumbers}
+use Rattle.table.proofs.Any.{empty-absent}
 
 -- ---- the grid
 
@@ -142,3 +144,10 @@ module _ (walk : Walk) (limit points : ℕ) (p : List ℕ) (entry size words : �
       let same : gridFrom t 10 0 (min (f .inputs) 16) ≡ replicate (f .inputs) (f .grid) = rw (all-used, byte-is) (again t (f .inputs) 10) in
       let i = mft-inside walk limit points p entry size words f h .1 in
       shows t _ _ _ short sizes (rw same) (i .clut-in-tag) (i .entry-in-table)
+
+-- neither `mft1` nor `mft2`, and no colour table
+pub nothing-shown : (s : State) → ((f : Fields) → s ≡ mft f → ⊥) → ((f : Abm) → s ≡ abm f → f .size ≡ 0) → (t index : List ℕ) (channel : ℕ) → entryOf t (tableBy t (numbersOf s)) index channel ≡ absent
+nothing-shown (mft f) h k t index channel = absurd (h f refl)
+nothing-shown (abm f) h k t index channel = empty-absent t _ index channel (k f refl)
+nothing-shown State·absent h k t index channel = empty-absent t _ index channel refl
+nothing-shown (refused n) h k t index channel = empty-absent t _ index channel refl

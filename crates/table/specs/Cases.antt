@@ -39,8 +39,8 @@ cases =
     reads cube (ofCube 20) (0 ∷ 0 ∷ 1 ∷ []) 0 (value 3) ∷
     reads cube (ofCube 20) (1 ∷ 0 ∷ 0 ∷ []) 0 (value 12) ∷
     reads cube (ofCube 20) (1 ∷ 1 ∷ 1 ∷ []) 2 (value 23) ∷
-    reads cube (ofCube 20) (1 ∷ 1 ∷ 1 ∷ []) 3 absent ∷
-    reads cube (ofCube 20) (2 ∷ 0 ∷ 0 ∷ []) 0 absent ∷
+    reads cube (ofCube 20) (0 ∷ 0 ∷ 0 ∷ []) 3 absent ∷
+    reads cube (ofCube 20) (0 ∷ 0 ∷ 2 ∷ []) 0 absent ∷
     reads cube (ofCube 20) (1 ∷ 1 ∷ []) 0 absent ∷
     reads cube (ofCube 20) (1 ∷ 1 ∷ 1 ∷ 0 ∷ []) 0 absent ∷
     reads cube (ofCube 21) (1 ∷ 1 ∷ 1 ∷ []) 2 absent ∷

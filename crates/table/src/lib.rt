@@ -3,13 +3,13 @@
 use fields::InTag;
 use lut::LutAnswer;
 ghost use mathlib.Core.Path.{_≡_};
-ghost use Prim.Native.Nat.{_+_, _*_, _-_, _^_, _<_, _≤_, min};
+ghost use Prim.Native.Nat.{_-_, _^_, _<_, min};
 ghost use Rattle.lut.specs.Answer.{stateFrom};
 ghost use Rattle.table.specs.Answer.{paper};
 ghost use Rattle.table.specs.View.{noNumbers, numbersOf, gridFrom, tableBy, pointAt, entryFrom, entryOf, Appended};
 
-// Where the entries of a colour table start in its tag, the bytes of one, the channels, and where the grid bytes stand: one for each
-// input channel, each `grid_step` behind the one before it. Of an answer without a colour table an entry has no bytes.
+// Where the entries of a colour table start in its tag, the bytes of one, the channels, and where the grid bytes stand: one for each of
+// the first sixteen input channels, each `grid_step` behind the one before it. Without a colour table an entry has no bytes.
 pub struct TableNumbers {
     pub start: InTag,
     pub entry_size: u8,
