@@ -196,11 +196,15 @@ def line(job: Job) -> str:
     """Our line for a job of reader 1, 2, 11 or 12."""
     if job.reader in (2, 12):
         return _curve_line(job)
-    answer = lookup_table(job)
-    if len(answer.records) > job.words // RECORD_WORDS:
+    return with_lent(lookup_table(job), job.words, RECORD_WORDS)
+
+
+def with_lent(answer: Answer, lent: int, record_words: int) -> str:
+    """The line of an answer, refused with 14 if too few words are lent, and the words as they are left."""
+    if len(answer.records) > lent // record_words:
         answer = Answer("refused 14")
     written = answer.words()
-    kept = range(LENT + len(written), LENT + job.words)
+    kept = range(LENT + len(written), LENT + lent)
     return " ".join([answer.text, "|", *map(str, written), *map(str, kept)])
 
 

@@ -14,7 +14,7 @@ from collections.abc import Iterator
 from random import Random
 
 from compare.jobs import MOST_WORDS, Job
-from compare.model import LAST_U32, LENT, Answer, NoValue, refuse
+from compare.model import LAST_U32, Answer, NoValue, refuse, with_lent
 
 READER = 3
 READERS = (READER,)
@@ -43,12 +43,7 @@ def modelled(job: Job) -> Answer:
 
 
 def model_line(job: Job) -> str:
-    answer = modelled(job)
-    if len(answer.records) > job.words // WORDS:
-        answer = Answer("refused 14")
-    written = answer.words()
-    kept = range(LENT + len(written), LENT + job.words)
-    return " ".join([answer.text, "|", *map(str, written), *map(str, kept)])
+    return with_lent(modelled(job), job.words, WORDS)
 
 
 def _absent(when: bool) -> None:

@@ -1,7 +1,8 @@
 -- One call, one answer: a result is determined by the numbers that it stands for, and those by the meaning.
 -- Assumes nothing.
-use mathlib.Core.Path.{_≡_, refl, sym, ap, _∙_}
+use mathlib.Core.Path.{_≡_, refl, ap}
 use Rattle.fields.proofs.Numbers.{nameOf, named}
+use Rattle.fields.proofs.Once.{once}
 use Rattle.clut.specs.Answer.{Told, value, refused, paper}
 use Rattle.clut.specs.declared.ClutAnswer.{ClutAnswer}
 
@@ -16,4 +17,4 @@ back (ClutAnswer.Refused why) = ap ClutAnswer.Refused (named why)
 
 -- two results that stand for the same answer are one
 pub unique : (a : Told) (r s : ClutAnswer) → paper r ≡ a → paper s ≡ a → r ≡ s
-unique a r s p q = sym (back r) ∙ ap resultFrom (p ∙ sym q) ∙ back s
+unique = once paper resultFrom back

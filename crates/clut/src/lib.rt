@@ -36,8 +36,8 @@ fn times(n: u32, by: u8) -> u64
     (n as u64) * (by as u64)
 }
 
-// How many of the sixteen grid bytes are in use.
-fn dimensions(inputs: u8) -> usize
+// How many of the sixteen grid bytes are in use: one for each input channel.
+pub fn dimensions(inputs: u8) -> usize
     ensures { λ r. ⌜ r ≡ min inputs 16 ⌝ }
 {
     if inputs < 16 { inputs as usize } else { 16 }

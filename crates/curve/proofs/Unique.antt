@@ -1,10 +1,11 @@
 -- One call, one answer: a result is determined by the numbers that it stands for, and those by the meaning.
 -- Assumes nothing.
-use mathlib.Core.Path.{_≡_, refl, sym, ap, _∙_}
+use mathlib.Core.Path.{_≡_, refl, ap}
 use mathlib.Core.List.{List}
 use Prim.Native.Nat.{ℕ}
 use lib.ListN.{getD}
 use Rattle.fields.proofs.Numbers.{nameOf, named}
+use Rattle.fields.proofs.Once.{once}
 use Rattle.curve.specs.Answer.{Answer, value, absent, refused, paper}
 use Rattle.curve.specs.declared.CurveAnswer.{CurveAnswer}
 use Rattle.curve.specs.declared.CurveRecord.{CurveRecord}
@@ -37,4 +38,4 @@ back (CurveAnswer.Refused why) = ap CurveAnswer.Refused (named why)
 
 -- two results that stand for the same answer are one
 pub unique : (a : Answer) (r s : CurveAnswer) → paper r ≡ a → paper s ≡ a → r ≡ s
-unique a r s p q = sym (back r) ∙ ap resultFrom (p ∙ sym q) ∙ back s
+unique = once paper resultFrom back

@@ -8,6 +8,15 @@ pub each : {A : Type 0} (P : A → Type 0) (t : Bool) (a b : A) → (t ≡ true 
 each P true a b f g = f refl
 each P false a b f g = g refl
 
+-- where two tests hold together, each does
+pub first-holds : (a b : Bool) → a && b ≡ true → a ≡ true
+first-holds true b e = refl
+first-holds false b e = e
+
+pub second-holds : (a b : Bool) → a && b ≡ true → b ≡ true
+second-holds true b e = e
+second-holds false b e = absurd (false≢true e)
+
 -- where the first test holds and both together do not, the second does not
 pub second-fails : (a b : Bool) → a && b ≡ false → a ≡ true → b ≡ false
 second-fails true b h e = h

@@ -7,3 +7,4 @@ pub mod Located
 pub mod Numbers
 pub mod Stores
 pub mod Fills
+pub mod Once

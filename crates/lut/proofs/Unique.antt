@@ -4,6 +4,7 @@ use Prim.Native.Nat.{ℕ}
 use mathlib.Core.Path.{_≡_, refl, sym, ap, _∙_}
 use mathlib.Core.List.{List}
 use Rattle.fields.proofs.Numbers.{nameOf, named}
+use Rattle.fields.proofs.Once.{once}
 use Rattle.curve.specs.declared.Walk.{Walk}
 use Rattle.mft.proofs.Unique.{tableFrom}
 use Rattle.lut.specs.Answer.{Abm, State, mft, abm, absent, refused, Answer, stateFrom, paper}
@@ -46,7 +47,7 @@ whole : (l : Lut) → lutTo (paper l) ≡ l
 whole l = rw (back (l .answer))
 
 pub unique : (a : Answer) (r s : Lut) → paper r ≡ a → paper s ≡ a → r ≡ s
-unique a r s p q = sym (whole r) ∙ ap lutTo (p ∙ sym q) ∙ whole s
+unique = once paper lutTo whole
 
 -- two calls of which the same is said have the same result and leave the same slots
 pub said-once : {walk : Walk} {limit : ℕ} {t : List ℕ} {a : Answer} {r q : Lut} {before after other : List ℕ} → Said walk limit t a r before after → Said walk limit t a q before other → (r ≡ q) × (after ≡ other)

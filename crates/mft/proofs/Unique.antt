@@ -1,7 +1,8 @@
 -- One call, one answer: a result is determined by the numbers that it stands for, and those by the meaning.
 -- Assumes nothing.
-use mathlib.Core.Path.{_≡_, refl, sym, ap, _∙_}
+use mathlib.Core.Path.{_≡_, refl, ap}
 use Rattle.fields.proofs.Numbers.{nameOf, named}
+use Rattle.fields.proofs.Once.{once}
 use Rattle.mft.specs.Answer.{Fields, State, value, refused, Answer, stateFrom, paper}
 use Rattle.mft.specs.declared.Mft.{Mft}
 use Rattle.mft.specs.declared.MftAnswer.{MftAnswer}
@@ -41,4 +42,4 @@ back r = ap (λ (a : MftAnswer). record { answer = a; matrix = r .matrix }) (ans
 
 -- two results that stand for the same answer are one
 pub unique : (a : Answer) (r s : Mft) → paper r ≡ a → paper s ≡ a → r ≡ s
-unique a r s p q = sym (back r) ∙ ap resultFrom (p ∙ sym q) ∙ back s
+unique = once paper resultFrom back

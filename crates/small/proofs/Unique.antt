@@ -1,10 +1,11 @@
 -- One call, one answer: a result of each reader is determined by the numbers that it stands for, and those by the meaning.
 -- Assumes nothing.
 use Prim.Native.Nat.{ℕ}
-use mathlib.Core.Path.{_≡_, refl, sym, ap, _∙_}
+use mathlib.Core.Path.{_≡_, refl, ap}
 use mathlib.Core.List.{List}
 use lib.ListN.{getD}
 use Rattle.fields.proofs.Numbers.{nameOf, named}
+use Rattle.fields.proofs.Once.{once}
 use Rattle.small.specs.Answer.{Answer, value, default, absent, refused, paperChad, paperSig, paperDate, paperMeas, paperView, paperXyz, paperCicp}
 use Rattle.small.specs.declared.chad.ChadAnswer.{ChadAnswer}
 use Rattle.small.specs.declared.cicp.CicpAnswer.{CicpAnswer}
@@ -14,10 +15,6 @@ use Rattle.small.specs.declared.sig.SigAnswer.{SigAnswer}
 use Rattle.small.specs.declared.view.ViewAnswer.{ViewAnswer}
 use Rattle.small.specs.declared.xyz.XyzAnswer.{XyzAnswer}
 use Rattle.small.specs.declared.xyz.XyzNumber.{XyzNumber}
-
--- a result that can be had back from its numbers is determined by them
-once : {R : Type 0} (paper : R → Answer) (result : Answer → R) → ((r : R) → result (paper r) ≡ r) → (a : Answer) (r s : R) → paper r ≡ a → paper s ≡ a → r ≡ s
-once paper result back a r s p q = sym (back r) ∙ ap result (p ∙ sym q) ∙ back s
 
 -- ---- `chad`
 

@@ -4,24 +4,15 @@
 use Prim.Native.Nat.{ℕ, _+_, _*_, _^_, _≤_, _<_}
 use native.Mathlib.Omega.{arith}
 use mathlib.Core.Path.{_≡_, refl}
-use mathlib.Core.Bool.{Bool, true, false, cond, _&&_, _||_, false≢true}
+use mathlib.Core.Bool.{Bool, true, false, cond, _&&_, _||_}
 use mathlib.Core.List.{List}
 use lib.Dec.{ltb}
 use lib.ListN.{length}
 use borrow.Author.Tests.{ltb-true, ltb-false}
-use Rattle.fields.proofs.Choice.{each, neither-left, neither-right}
+use Rattle.fields.proofs.Choice.{each, first-holds, second-holds, neither-left, neither-right}
 use Rattle.clut.specs.Table.{Table, inGrid, pointOf, numberOf}
 use Rattle.table.specs.Answer.{Told, value, absent}
 use Rattle.table.specs.View.{storedAt, entryFrom, entryOf}
-
--- where two tests hold together, each does
-first-holds : (a b : Bool) → a && b ≡ true → a ≡ true
-first-holds true b e = refl
-first-holds false b e = e
-
-pub second-holds : (a b : Bool) → a && b ≡ true → b ≡ true
-second-holds true b e = e
-second-holds false b e = absurd (false≢true e)
 
 module _ (t : List ℕ) (table : Table) (index : List ℕ) (channel : ℕ) where
   pub invalid-absent : inGrid (table .grid) index && ltb channel (table .outputs) ≡ false → entryOf t table index channel ≡ absent

@@ -1,9 +1,10 @@
 -- One call, one answer: a result is determined by the numbers that it stands for, and a view by its tag and its numbers.
 -- Assumes nothing.
-use mathlib.Core.Path.{_≡_, refl, sym, ap, _∙_}
+use mathlib.Core.Path.{_≡_, refl, sym, _∙_}
 use mathlib.Core.List.{List}
 use Prim.Native.Nat.{ℕ}
 use denote.Ref.{RefT}
+use Rattle.fields.proofs.Once.{once}
 use Rattle.table.specs.Answer.{Told, value, absent, paper}
 use Rattle.table.specs.declared.EntryAnswer.{EntryAnswer}
 use Rattle.table.specs.declared.TableNumbers.{TableNumbers}
@@ -20,7 +21,7 @@ back EntryAnswer.Absent = refl
 
 -- two results that stand for the same answer are one
 pub unique : (a : Told) (r s : EntryAnswer) → paper r ≡ a → paper s ≡ a → r ≡ s
-unique a r s p q = sym (back r) ∙ ap resultFrom (p ∙ sym q) ∙ back s
+unique = once paper resultFrom back
 
 -- two views of one tag by the same numbers are one
 pub one-view : (tag : RefT (List ℕ)) (n : TableNumbers) (r s : TableView) → (r .tag ≡ tag) × (r .numbers ≡ n) → (s .tag ≡ tag) × (s .numbers ≡ n) → r ≡ s

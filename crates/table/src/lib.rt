@@ -92,13 +92,6 @@ pub fn numbers_of(answer: LutAnswer) -> TableNumbers
     }
 }
 
-// How many of the grid bytes are in use.
-fn dimensions(inputs: u8) -> usize
-    ensures { λ r. ⌜ r ≡ min inputs 16 ⌝ }
-{
-    if inputs < 16 { inputs as usize } else { 16 }
-}
-
 // A number with one more digit, to a base of its own.
 fn append(number: u32, base: u8, digit: u8) -> u64
     ensures { λ r. ⌜ Appended number base digit r ⌝ }
@@ -167,7 +160,7 @@ pub fn entry_at(tag: &[u8], numbers: TableNumbers, index: &[u8], channel: u8) ->
 {
     let start = numbers.start;
     let grid_at = numbers.grid_at;
-    let n = dimensions(numbers.inputs);
+    let n = clut::dimensions(numbers.inputs);
     let found = point_at(tag, grid_at, numbers.grid_step, n, index);
     let Point::At(point) = found else {
         return EntryAnswer::Absent;

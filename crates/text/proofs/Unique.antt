@@ -4,6 +4,7 @@ use mathlib.Core.Path.{_≡_, refl, sym, ap, _∙_}
 use mathlib.Core.List.{List}
 use Prim.Native.Nat.{ℕ}
 use Rattle.fields.proofs.Numbers.{nameOf, named}
+use Rattle.fields.proofs.Once.{once}
 use Rattle.text.specs.Answer.{Answer, text, desc, mluc, absent, refused, Span, paper}
 use Rattle.text.specs.Text.{Said}
 use Rattle.text.specs.declared.Range.{Range}
@@ -29,7 +30,7 @@ back (TextAnswer.Refused why) = ap TextAnswer.Refused (named why)
 
 -- two results that stand for the same answer are one
 pub unique : (a : Answer) (r s : TextAnswer) → paper r ≡ a → paper s ≡ a → r ≡ s
-unique a r s p q = sym (back r) ∙ ap resultTo (p ∙ sym q) ∙ back s
+unique = once paper resultTo back
 
 -- two calls of which the same is said have the same result and leave the same slots
 pub said-once : {t : List ℕ} {a : Answer} {r q : TextAnswer} {before after other : List ℕ} → Said t a r before after → Said t a q before other → (r ≡ q) × (after ≡ other)
