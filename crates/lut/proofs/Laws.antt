@@ -37,16 +37,17 @@ use Rattle.mft.specs.declared.MftAnswer.{MftAnswer}
 use Rattle.mft.specs.declared.MftTable.{MftTable}
 use Rattle.mft.proofs.Conforms.{type-known}
 use Rattle.run.specs.Run.{recordWords, recordsOf}
-use Rattle.lut.specs.Abm.{tableOf, valueFrom, recordedOf, judgedOf, withTable, abmOf}
-use Rattle.lut.specs.Answer.{mft, abm, refused, Answer, none, refuse, mftState, fromMft, paper, leftBy}
-use Rattle.lut.specs.Layout.{toPcs, inputs, outputs, planOf, Planned, recordsNeeded, gridOf, matrixOf, biasOf}
-use Rattle.lut.specs.Lut.{Said, tagOf, byType, lutOf}
-use Rattle.lut.specs.Parts.{runsJudged, curvesOf, matrixJudged}
-use Rattle.lut.specs.Verdict.{good, judgedFrom}
-use Rattle.lut.specs.declared.answer.Lut.{Lut}
-use Rattle.lut.specs.declared.abm.Plan.{Plan}
+use Rattle.lut_meaning.specs.Abm.{tableOf, valueFrom, recordedOf, judgedOf, withTable, abmOf}
+use Rattle.lut_meaning.specs.Answer.{mft, abm, refused, Answer, none, refuse, mftState, fromMft, paper, leftBy}
+use Rattle.lut_meaning.specs.Layout.{toPcs, inputs, outputs, planOf, Planned, recordsNeeded, gridOf, matrixOf, biasOf}
+use Rattle.lut_meaning.specs.Lut.{Said, tagOf, byType, lutOf}
+use Rattle.lut_meaning.specs.Parts.{runsJudged, curvesOf, matrixJudged}
+use Rattle.lut_meaning.specs.Judged.{good}
+use Rattle.lut.specs.Verdict.{judgedFrom}
+use Rattle.lut_meaning.specs.declared.Lut.{Lut}
+use Rattle.lut_meaning.specs.declared.Plan.{Plan}
 use Rattle.lut.specs.declared.nested.Verdict.{Verdict}
-use Rattle.lut.proofs.PartLaws.{all-length}
+use Rattle.lut_meaning.proofs.Parts.{all-length, mab-is, mba-is}
 
 -- ---- the parts of the answer
 
@@ -172,14 +173,6 @@ module _ (got : Mft) where
 mft-leaves : (a : Mft·State) (records slots : List ℕ) → leftBy (mftState a) records slots ≡ slots
 mft-leaves (Mft·State.value f) records slots = refl
 mft-leaves (Mft·State.refused n) records slots = refl
-
-pub mab-is : (t : List ℕ) → u32At t 0 ≡ signatureOf Mab → isMft t ≡ false
-unfolding isMft isWide signatureOf
-mab-is t e = rw e refl
-
-pub mba-is : (t : List ℕ) → u32At t 0 ≡ signatureOf Mba → isMft t ≡ false
-unfolding isMft isWide signatureOf
-mba-is t e = rw e refl
 
 mab-mba : signatureOf Mba ≡ signatureOf Mab → ⊥
 unfolding signatureOf

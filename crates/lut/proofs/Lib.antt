@@ -1,10 +1,3 @@
 pub mod RunLaws
 pub mod PartLaws
 pub mod Laws
-pub mod Accepted
-pub mod Unique
-pub mod Needed
-pub mod Inside
-pub mod More
-pub mod Conforms
-pub mod Cases

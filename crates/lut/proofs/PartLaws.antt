@@ -17,10 +17,12 @@ use Rattle.curve.specs.declared.Walk.{Walk}
 use Rattle.run.specs.Run.{End, whole, stopped, Ran, runAt, recordWords, recordsOf}
 use Rattle.run.proofs.Runs.{run-count}
 use Rattle.run.proofs.Writing.{records-length, records-append}
-use Rattle.lut.specs.Layout.{toPcs, deviceChannels, spaceChannels, present, Few, aCurves, mCurves, bCurves, planOf, Planned, identity, matrixOf, biasOf, gridOf}
-use Rattle.lut.specs.Parts.{runA, runM, runB, runsJudged, curvesOf, matrixJudged}
-use Rattle.lut.specs.Verdict.{Judged, good, bad, judgedFrom, ended, andThen}
-use Rattle.lut.specs.declared.abm.Plan.{Plan}
+use Rattle.lut_meaning.specs.Layout.{toPcs, deviceChannels, spaceChannels, present, Few, aCurves, mCurves, bCurves, planOf, Planned, identity, matrixOf, biasOf, gridOf}
+use Rattle.lut_meaning.specs.Parts.{runA, runM, runB, runsJudged, curvesOf, matrixJudged}
+use Rattle.lut_meaning.specs.Judged.{Judged, good, bad, ended, andThen}
+use Rattle.lut.specs.Verdict.{judgedFrom}
+use Rattle.lut_meaning.specs.declared.Plan.{Plan}
+use Rattle.lut_meaning.proofs.Parts.{a-whole, m-whole, b-whole, records-of, all-records}
 use Rattle.lut.specs.declared.nested.Verdict.{Verdict}
 use Rattle.lut.proofs.nested.Verdict as verdicts
 
@@ -121,46 +123,7 @@ pub ruleset runs-laws = (runs-a, runs-m, runs-b)
 
 -- ---- the runs, written
 
-ended-good : (e : End) → ended e ≡ good → e ≡ whole
-unfolding ended
-ended-good whole h = refl
-ended-good (stopped n at) h = let z : _≡_ {A = ℕ} 0 1 = cc in absurd (omega arith)
-
-first-good : (j k : Judged) → andThen j k ≡ good → j ≡ good
-first-good good k h = refl
-first-good (bad n) k h = h
-
-second-good : (j k : Judged) → andThen j k ≡ good → k ≡ good
-second-good good k h = h
-second-good (bad n) k h = let z : _≡_ {A = ℕ} 0 1 = cc in absurd (omega arith)
-
 module _ (walk : Walk) (limit : ℕ) (t : List ℕ) (p : Plan) (h : runsJudged walk limit t p ≡ good) where
-  abbrev ends : (Walk → ℕ → List ℕ → Plan → Ran) → Judged
-  ends run = ended (run walk limit t p .end)
-
-  pub a-whole : runA walk limit t p .end ≡ whole
-  unfolding runsJudged
-  a-whole = ended-good (runA walk limit t p .end) (first-good (ends runA) (andThen (ends runM) (ends runB)) h)
-
-  pub m-whole : runM walk limit t p .end ≡ whole
-  unfolding runsJudged
-  m-whole = ended-good (runM walk limit t p .end) (first-good (ends runM) (ends runB) (second-good (ends runA) (andThen (ends runM) (ends runB)) h))
-
-  pub b-whole : runB walk limit t p .end ≡ whole
-  unfolding runsJudged
-  b-whole = ended-good (runB walk limit t p .end) (second-good (ends runM) (ends runB) (second-good (ends runA) (andThen (ends runM) (ends runB)) h))
-
-  -- as many words as a whole run has records
-  records-of : (at n : ℕ) → runAt walk limit t at n .end ≡ whole → length (recordsOf (runAt walk limit t at n .curves)) ≡ n * recordWords
-  records-of at n w = records-length (runAt walk limit t at n .curves) ∙ ap (λ (k : ℕ). k * recordWords) (run-count walk limit t at n w)
-
-  all-records : recordsOf (curvesOf walk limit t p) ≡ recordsOf (runA walk limit t p .curves) ++ recordsOf (runM walk limit t p .curves) ++ recordsOf (runB walk limit t p .curves)
-  unfolding curvesOf
-  all-records = records-append (runA walk limit t p .curves ++ runM walk limit t p .curves) (runB walk limit t p .curves) ∙ ap (λ (x : List ℕ). x ++ recordsOf (runB walk limit t p .curves)) (records-append (runA walk limit t p .curves) (runM walk limit t p .curves))
-
-  pub all-length : length (recordsOf (curvesOf walk limit t p)) ≡ (p .na + p .nm + p .nb) * recordWords
-  all-length = ap length all-records ∙ simp length-append (omega (arith, records-of (p .a .0) (p .na) a-whole, records-of (p .m .0) (p .nm) m-whole, records-of (p .b .0) (p .nb) b-whole))
-
   -- each run is written in front of its part: s₁, s₂ are the slots between the calls, and y₂, y₃ what the calls left of the parts
   pub runs-written : (s₀ : List ℕ) → (p .na + p .nm + p .nb) * recordWords ≤ length s₀
       → (s₁ : List ℕ) → s₁ ≡ recordsOf (runA walk limit t p .curves) ++ drop (p .na * recordWords) s₀
@@ -172,9 +135,9 @@ module _ (walk : Walk) (limit : ℕ) (t : List ℕ) (p : Plan) (h : runsJudged w
       let A : List ℕ = recordsOf (runA walk limit t p .curves) in
       let M : List ℕ = recordsOf (runM walk limit t p .curves) in
       let B : List ℕ = recordsOf (runB walk limit t p .curves) in
-      let la : length A ≡ p .na * recordWords = records-of (p .a .0) (p .na) a-whole in
-      let lm : length M ≡ p .nm * recordWords = records-of (p .m .0) (p .nm) m-whole in
-      let lb : length B ≡ p .nb * recordWords = records-of (p .b .0) (p .nb) b-whole in
+      let la : length A ≡ p .na * recordWords = records-of walk limit t p h (p .a .0) (p .na) (a-whole walk limit t p h) in
+      let lm : length M ≡ p .nm * recordWords = records-of walk limit t p h (p .m .0) (p .nm) (m-whole walk limit t p h) in
+      let lb : length B ≡ p .nb * recordWords = records-of walk limit t p h (p .b .0) (p .nb) (b-whole walk limit t p h) in
       let w₁ : s₁ ≡ sets s₀ 0 A = e₁ ∙ front s₀ A (p .na * recordWords) la (omega arith) in
       let l₁ : length s₁ ≡ length s₀ = ap length w₁ ∙ length-sets s₀ 0 A in
       let w₂ : s₂ ≡ sets s₁ (p .na * recordWords) M = p₂ ∙ rejoined s₁ M (p .na * recordWords) (p .nm * recordWords) lm (omega arith) y₂ e₂ in
@@ -189,7 +152,7 @@ module _ (walk : Walk) (limit : ℕ) (t : List ℕ) (p : Plan) (h : runsJudged w
       ∙ ap (λ (k : ℕ). sets (sets s₀ 0 (A ++ M)) k B) i
       ∙ sym (sets-append (A ++ M) B s₀ 0)
       ∙ sym (front s₀ (A ++ M ++ B) ((p .na + p .nm + p .nb) * recordWords) n room)
-      ∙ ap (λ (x : List ℕ). x ++ drop ((p .na + p .nm + p .nb) * recordWords) s₀) (sym all-records)
+      ∙ ap (λ (x : List ℕ). x ++ drop ((p .na + p .nm + p .nb) * recordWords) s₀) (sym (all-records walk limit t p h))
 
 -- ---- rows read into arrays
 

@@ -26,7 +26,8 @@ use Rattle.run.specs.Run.{Ran, raised, entryAt, follow, runAt, recordWords}
 use Rattle.run.proofs.Runs.{entry-inside, run-turn}
 use Rattle.curve.proofs.Told.{told, told-no, told-present}
 use Rattle.run.proofs.Writing.{Writing, turns, never}
-use Rattle.lut.specs.Verdict.{good, bad, judgedFrom, ended, curveJudged}
+use Rattle.lut_meaning.specs.Judged.{good, bad, ended}
+use Rattle.lut.specs.Verdict.{judgedFrom, curveJudged}
 use Rattle.lut.specs.declared.nested.Verdict.{Verdict}
 
 -- ---- a curve of a run

@@ -1,8 +1,1 @@
 pub mod Verdict
-pub mod Layout
-pub mod Parts
-pub mod Answer
-pub mod Abm
-pub mod Lut
-pub mod Standard
-pub mod Cases

@@ -1,8 +1,5 @@
 // `mAB ` and `mBA `: read_lut_abm_type of moxcms.
 use crate::answer;
-use crate::answer::AbmTable;
-use crate::answer::Lut;
-use crate::answer::LutAnswer;
 use crate::nested;
 use crate::nested::RECORD_WORDS;
 use crate::nested::Verdict;
@@ -12,6 +9,10 @@ use curve::Walk;
 use fields::InTag;
 use fields::Kind;
 use fields::Refusal;
+use lut_meaning::AbmTable;
+use lut_meaning::Lut;
+use lut_meaning::LutAnswer;
+use lut_meaning::Plan;
 ghost use mathlib.Core.Path.{_≡_};
 ghost use mathlib.Core.Bool.{_&&_};
 ghost use mathlib.Core.List.{_++_};
@@ -21,12 +22,13 @@ ghost use lib.ListN.{length, drop};
 ghost use Rattle.clut.specs.Answer.{paper as Clut·paper, toldOf};
 ghost use Rattle.fields.specs.Bytes.{bytesAt};
 ghost use Rattle.run.specs.Run.{recordWords, recordsOf};
-ghost use Rattle.lut.specs.Abm.{tableOf, valueFrom, recordedOf, judgedOf, withTable, abmOf};
-ghost use Rattle.lut.specs.Lut.{Said};
-ghost use Rattle.lut.specs.Parts.{runsJudged, curvesOf, matrixJudged};
-ghost use Rattle.lut.specs.Answer.{paper};
-ghost use Rattle.lut.specs.Layout.{toPcs, inputs, outputs, deviceChannels, spaceChannels, Few, present, aCurves, mCurves, bCurves, Planned, gridOf, matrixOf, biasOf};
-ghost use Rattle.lut.specs.Verdict.{good, judgedFrom};
+ghost use Rattle.lut_meaning.specs.Abm.{tableOf, valueFrom, recordedOf, judgedOf, withTable, abmOf};
+ghost use Rattle.lut_meaning.specs.Lut.{Said};
+ghost use Rattle.lut_meaning.specs.Parts.{runsJudged, curvesOf, matrixJudged};
+ghost use Rattle.lut_meaning.specs.Answer.{paper};
+ghost use Rattle.lut_meaning.specs.Layout.{toPcs, inputs, outputs, deviceChannels, spaceChannels, Few, present, aCurves, mCurves, bCurves, Planned, gridOf, matrixOf, biasOf};
+ghost use Rattle.lut_meaning.specs.Judged.{good};
+ghost use Rattle.lut.specs.Verdict.{judgedFrom};
 
 // Whether the tag leads towards the connection space.
 fn to_pcs(tag: &[u8]) -> bool
@@ -85,15 +87,6 @@ fn b_curves(tag: &[u8]) -> u32
 }
 
 // Where the runs A, M and B start, and how many curves each has.
-struct Plan {
-    a: InTag,
-    na: u32,
-    m: InTag,
-    nm: u32,
-    b: InTag,
-    nb: u32,
-}
-
 fn find_runs(tag: &[u8]) -> Plan
     ensures { λ r. ⌜ Planned (now (tag .entry)) r ⌝ }
 {

@@ -1,43 +1,13 @@
-// What the reader of lookup tables answers.
-use fields::InTag;
+// Answers of the reader of lookup tables.
 use fields::Refusal;
+use lut_meaning::Lut;
+use lut_meaning::LutAnswer;
 use mft::Mft;
 use mft::MftAnswer;
-use mft::MftTable;
 ghost use mathlib.Core.Path.{_≡_};
 ghost use Rattle.fields.specs.Refusals.{numberOf};
 ghost use Rattle.mft.specs.Answer.{paper as Mft·paper};
-ghost use Rattle.lut.specs.Answer.{none, refuse, fromMft, paper};
-
-// What an `mAB ` or `mBA ` tag says: its direction and channels, where the data of its colour table lie and the bytes of an entry (zeros
-// without one), and how many curves each run has. The records of the curves stand in the lent slots.
-pub struct AbmTable {
-    pub to_pcs: bool,
-    pub inputs: u8,
-    pub outputs: u8,
-    pub clut_start: InTag,
-    pub clut_length: u32,
-    pub entry_size: u8,
-    pub a_curves: u32,
-    pub m_curves: u32,
-    pub b_curves: u32,
-}
-
-pub enum LutAnswer {
-    Mft(MftTable),
-    Abm(AbmTable),
-    Absent,
-    Refused(Refusal),
-}
-
-// The answer, and beside it what is an array: the grid bytes as they stand, and the matrix and bias numbers, signed words in two's
-// complement. All of them are zeros unless the answer is a value.
-pub struct Lut {
-    pub answer: LutAnswer,
-    pub grid: [u8; 16],
-    pub matrix: [u32; 9],
-    pub bias: [u32; 3],
-}
+ghost use Rattle.lut_meaning.specs.Answer.{none, refuse, fromMft, paper};
 
 pub(crate) fn absent() -> Lut
     ensures { λ r. ⌜ paper r ≡ none ⌝ }

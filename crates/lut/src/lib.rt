@@ -3,20 +3,20 @@ mod abm;
 mod answer;
 mod nested;
 
-pub use answer::AbmTable;
-pub use answer::Lut;
-pub use answer::LutAnswer;
 use curve::Walk;
 use fields::Entry;
 use fields::InTag;
 use fields::Kind;
 use fields::Place;
 use fields::Refusal;
+pub use lut_meaning::AbmTable;
+pub use lut_meaning::Lut;
+pub use lut_meaning::LutAnswer;
 pub use nested::RECORD_WORDS;
 ghost use mathlib.Core.Path.{_≡_};
 ghost use lib.ListN.{length};
 ghost use Prim.Native.Nat.{_^_, _<_};
-ghost use Rattle.lut.specs.Lut.{Said, tagOf, byType, lutOf};
+ghost use Rattle.lut_meaning.specs.Lut.{Said, tagOf, byType, lutOf};
 
 // By the type of the tag.
 fn read_kind(tag: &[u8], limit: u64, points: u64, walk: Walk, slots: &mut [u32]) -> Lut

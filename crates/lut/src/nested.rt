@@ -11,7 +11,8 @@ ghost use lib.ListN.{length, drop};
 ghost use lib.Seq.{sets};
 ghost use Rattle.curve.specs.Answer.{words, paper, answerOf};
 ghost use Rattle.run.specs.Run.{whole, raised, entryAt, runAt, recordWords, recordsOf};
-ghost use Rattle.lut.specs.Verdict.{judgedFrom, ended, curveJudged};
+ghost use Rattle.lut_meaning.specs.Judged.{ended};
+ghost use Rattle.lut.specs.Verdict.{judgedFrom, curveJudged};
 
 // The words of a record, and so of a slot.
 pub const RECORD_WORDS: usize = 10;

@@ -17,9 +17,9 @@ use Rattle.fields.specs.Bytes.{u16At}
 use Rattle.clut.specs.Table.{Table, product, inGrid, pointOf, numberOf}
 use Rattle.clut.proofs.Grid.{point-below}
 use Rattle.fields.specs.declared.InTag.{InTag}
-use Rattle.lut.specs.Answer.{stateFrom}
-use Rattle.lut.specs.declared.answer.AbmTable.{AbmTable}
-use Rattle.lut.specs.declared.answer.LutAnswer.{LutAnswer}
+use Rattle.lut_meaning.specs.Answer.{stateFrom}
+use Rattle.lut_meaning.specs.declared.AbmTable.{AbmTable}
+use Rattle.lut_meaning.specs.declared.LutAnswer.{LutAnswer}
 use Rattle.mft.specs.declared.MftTable.{MftTable}
 use Rattle.table.specs.Answer.{Told, value, absent}
 use Rattle.table.specs.View.{gridFrom, tableBy, numbersOf, pointAt, entryFrom, entryOf, Appended}

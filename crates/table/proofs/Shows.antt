@@ -21,12 +21,12 @@ use Rattle.curve.specs.declared.Walk.{Walk}
 use Rattle.mft.specs.Answer.{Fields, fieldsOf, toldTable as Mft·toldTable}
 use Rattle.mft.specs.Layout.{isWide, entrySize}
 use Rattle.mft.proofs.Conforms.{accepted as Mft·accepted}
-use Rattle.lut.specs.Abm.{noTable, tableOf, valueFrom, toldTable}
-use Rattle.lut.specs.Answer.{Abm, State, Answer, mft, abm, absent as State·absent, refused}
-use Rattle.lut.specs.Layout.{inputs, outputs, clutOffset, gridOf}
-use Rattle.lut.specs.Lut.{tagOf, lutOf}
-use Rattle.lut.proofs.Accepted.{abm-found, mft-found}
-use Rattle.lut.proofs.Inside.{lut-inside, mft-inside}
+use Rattle.lut_meaning.specs.Abm.{noTable, tableOf, valueFrom, toldTable}
+use Rattle.lut_meaning.specs.Answer.{Abm, State, Answer, mft, abm, absent as State·absent, refused}
+use Rattle.lut_meaning.specs.Layout.{inputs, outputs, clutOffset, gridOf}
+use Rattle.lut_meaning.specs.Lut.{tagOf, lutOf}
+use Rattle.lut_meaning.proofs.Accepted.{abm-found, mft-found}
+use Rattle.lut_meaning.proofs.Inside.{lut-inside, mft-inside}
 use Rattle.table.specs.Answer.{value, absent}
 use Rattle.table.specs.View.{gridFrom, tableBy, numbersOf, storedAt, entryFrom, entryOf}
 use Rattle.table.specs.declared.TableNumbers.{TableNumbers}

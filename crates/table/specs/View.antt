@@ -7,7 +7,7 @@ use lib.Dec.{ltb, eqb}
 use lib.ListN.{length, getD}
 use Rattle.fields.specs.Bytes.{u16At}
 use Rattle.clut.specs.Table.{Table, inGrid, pointOf, numberOf}
-use Rattle.lut.specs.Answer.{State, mft, abm, absent as State·absent, refused}
+use Rattle.lut_meaning.specs.Answer.{State, mft, abm, absent as State·absent, refused}
 use Rattle.table.specs.Answer.{Told, value, absent}
 use Rattle.table.specs.declared.Point.{Point}
 use Rattle.table.specs.declared.TableNumbers.{TableNumbers}

@@ -1,10 +1,10 @@
 // A view of the colour table of a lookup table: it keeps the lent tag and plain numbers, and one entry is read at a grid index. The work
 // is in `entry_at`, which takes the tag and the numbers apart from each other.
 use fields::InTag;
-use lut::LutAnswer;
+use lut_meaning::LutAnswer;
 ghost use mathlib.Core.Path.{_≡_};
 ghost use Prim.Native.Nat.{_-_, _^_, _<_, min};
-ghost use Rattle.lut.specs.Answer.{stateFrom};
+ghost use Rattle.lut_meaning.specs.Answer.{stateFrom};
 ghost use Rattle.table.specs.Answer.{paper};
 ghost use Rattle.table.specs.View.{noNumbers, numbersOf, gridFrom, tableBy, pointAt, entryFrom, entryOf, Appended};
 

@@ -22,12 +22,12 @@ use Rattle.mft.specs.Answer.{Fields, State as Mft·State, answerOf}
 use Rattle.mft.specs.Layout.{isMft}
 use Rattle.mft.specs.Mft.{mftOf}
 use Rattle.run.specs.Run.{recordWords}
-use Rattle.lut.specs.Abm.{tableOf, valueFrom, recordedOf, judgedOf, withTable, abmOf}
-use Rattle.lut.specs.Answer.{Abm, State, mft, abm, absent, refused, Answer, fromMft, orRefused}
-use Rattle.lut.specs.Layout.{inputs, outputs, planOf, recordsNeeded}
-use Rattle.lut.specs.Lut.{tagOf, byType, lutOf}
-use Rattle.lut.specs.Parts.{runsJudged, matrixJudged}
-use Rattle.lut.specs.Verdict.{Judged, good, bad}
+use Rattle.lut_meaning.specs.Abm.{tableOf, valueFrom, recordedOf, judgedOf, withTable, abmOf}
+use Rattle.lut_meaning.specs.Answer.{Abm, State, mft, abm, absent, refused, Answer, fromMft, orRefused}
+use Rattle.lut_meaning.specs.Layout.{inputs, outputs, planOf, recordsNeeded}
+use Rattle.lut_meaning.specs.Lut.{tagOf, byType, lutOf}
+use Rattle.lut_meaning.specs.Parts.{runsJudged, matrixJudged}
+use Rattle.lut_meaning.specs.Judged.{Judged, good, bad}
 
 -- a value, of either kind
 unfoldable pub IsValue : State → Type 0

@@ -21,7 +21,7 @@ use lib.ListN.{getD, replicate}
 use Rattle.fields.specs.Bytes.{u32At, bytesAt, wordsAt}
 use Rattle.fields.specs.Tag.{signatureOf}
 use Rattle.fields.specs.declared.Kind.the-variants.{Mab}
-use Rattle.lut.specs.declared.abm.Plan.{Plan}
+use Rattle.lut_meaning.specs.declared.Plan.{Plan}
 
 -- towards the connection space, 'mAB ', or away from it, 'mBA '
 abbrev pub toPcs : List ℕ → Bool

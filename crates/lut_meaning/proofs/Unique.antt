@@ -7,11 +7,11 @@ use Rattle.fields.proofs.Numbers.{nameOf, named}
 use Rattle.fields.proofs.Once.{once}
 use Rattle.curve.specs.declared.Walk.{Walk}
 use Rattle.mft.proofs.Unique.{tableFrom}
-use Rattle.lut.specs.Answer.{Abm, State, mft, abm, absent, refused, Answer, stateFrom, paper}
-use Rattle.lut.specs.Lut.{Said}
-use Rattle.lut.specs.declared.answer.AbmTable.{AbmTable}
-use Rattle.lut.specs.declared.answer.Lut.{Lut}
-use Rattle.lut.specs.declared.answer.LutAnswer.{LutAnswer}
+use Rattle.lut_meaning.specs.Answer.{Abm, State, mft, abm, absent, refused, Answer, stateFrom, paper}
+use Rattle.lut_meaning.specs.Lut.{Said}
+use Rattle.lut_meaning.specs.declared.AbmTable.{AbmTable}
+use Rattle.lut_meaning.specs.declared.Lut.{Lut}
+use Rattle.lut_meaning.specs.declared.LutAnswer.{LutAnswer}
 
 -- the result that stands for an answer
 abbrev tableTo : Abm → AbmTable

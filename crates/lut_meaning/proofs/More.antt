@@ -26,15 +26,15 @@ use Rattle.mft.specs.Mft.{mftOf}
 use Rattle.mft.proofs.More.{Is as MftIs, more-limit as mft-limit}
 use Rattle.run.specs.Run.{End, whole, stopped, Ran, runAt, recordWords, recordsOf}
 use Rattle.run.proofs.Limit.{Over, run-limit}
-use Rattle.lut.specs.Abm.{tableOf, recordedOf, judgedOf, withTable, abmOf}
-use Rattle.lut.specs.Answer.{State, mft, abm, absent, refused, Answer, fromMft, orRefused, leftBy}
-use Rattle.lut.specs.Layout.{inputs, outputs, planOf, recordsNeeded}
-use Rattle.lut.specs.Lut.{tagOf, byType, lutOf}
-use Rattle.lut.specs.Parts.{runA, runM, runB, runsJudged, curvesOf, matrixJudged}
-use Rattle.lut.specs.Verdict.{Judged, good, bad, ended, andThen}
-use Rattle.lut.specs.declared.abm.Plan.{Plan}
-use Rattle.lut.proofs.Accepted.{IsValue, not-refused, abm-found}
-use Rattle.lut.proofs.PartLaws.{a-whole, m-whole, b-whole, all-length}
+use Rattle.lut_meaning.specs.Abm.{tableOf, recordedOf, judgedOf, withTable, abmOf}
+use Rattle.lut_meaning.specs.Answer.{State, mft, abm, absent, refused, Answer, fromMft, orRefused, leftBy}
+use Rattle.lut_meaning.specs.Layout.{inputs, outputs, planOf, recordsNeeded}
+use Rattle.lut_meaning.specs.Lut.{tagOf, byType, lutOf}
+use Rattle.lut_meaning.specs.Parts.{runA, runM, runB, runsJudged, curvesOf, matrixJudged}
+use Rattle.lut_meaning.specs.Judged.{Judged, good, bad, ended, andThen}
+use Rattle.lut_meaning.specs.declared.Plan.{Plan}
+use Rattle.lut_meaning.proofs.Accepted.{IsValue, not-refused, abm-found}
+use Rattle.lut_meaning.proofs.Parts.{a-whole, m-whole, b-whole, all-length}
 
 -- the answers that may change: those of one refusal
 abbrev pub Is : ℕ → Answer → Type 0

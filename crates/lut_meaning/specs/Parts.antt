@@ -6,9 +6,9 @@ use lib.Dec.{ltb, eqb}
 use lib.ListN.{length}
 use Rattle.curve.specs.declared.Walk.{Walk}
 use Rattle.run.specs.Run.{Placed, Ran, runAt}
-use Rattle.lut.specs.Layout.{matrixOffset}
-use Rattle.lut.specs.Verdict.{Judged, good, bad, ended, andThen}
-use Rattle.lut.specs.declared.abm.Plan.{Plan}
+use Rattle.lut_meaning.specs.Layout.{matrixOffset}
+use Rattle.lut_meaning.specs.Judged.{Judged, good, bad, ended, andThen}
+use Rattle.lut_meaning.specs.declared.Plan.{Plan}
 
 -- the three runs, each by itself
 abbrev pub runA : Walk → ℕ → List ℕ → Plan → Ran

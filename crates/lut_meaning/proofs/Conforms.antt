@@ -29,17 +29,17 @@ use Rattle.mft.specs.Standard.{LaidOut as MftLaidOut, Asked as MftAsked}
 use Rattle.mft.proofs.Conforms.{start-least, start-before, type-known, conforms as mft-accepted, Accepted as MftAccepted, accepted as accepted-mft}
 use Rattle.run.specs.Run.{Placed, whole, raised, entryAt, runAt, endOf, recordWords, Each}
 use Rattle.run.proofs.Runs.{entry-there, Reads, run-reads, reads-run, run-count}
-use Rattle.lut.specs.Abm.{noTable, tableOf, valueFrom, recordedOf, judgedOf, abmOf}
-use Rattle.lut.specs.Answer.{Abm, mft, abm, Answer, fromMft}
-use Rattle.lut.specs.Layout.{inputs, outputs, aOffset, mOffset, bOffset, matrixOffset, clutOffset, aCurves, mCurves, bCurves, planOf, recordsNeeded}
-use Rattle.lut.specs.Lut.{tagOf, byType, lutOf}
-use Rattle.lut.specs.Parts.{runA, runM, runB, runsJudged, curvesOf, matrixJudged}
-use Rattle.lut.specs.Standard.{Row, TableThere, TableNot, LaidOut, Kept, Asked}
-use Rattle.lut.specs.Verdict.{good, ended}
-use Rattle.lut.proofs.Accepted.{abm-found, mft-found}
-use Rattle.lut.proofs.Inside.{matrix-inside}
-use Rattle.lut.proofs.Laws.{mab-is, mba-is}
-use Rattle.lut.proofs.PartLaws.{a-whole, m-whole, b-whole}
+use Rattle.lut_meaning.specs.Abm.{noTable, tableOf, valueFrom, recordedOf, judgedOf, abmOf}
+use Rattle.lut_meaning.specs.Answer.{Abm, mft, abm, Answer, fromMft}
+use Rattle.lut_meaning.specs.Layout.{inputs, outputs, aOffset, mOffset, bOffset, matrixOffset, clutOffset, aCurves, mCurves, bCurves, planOf, recordsNeeded}
+use Rattle.lut_meaning.specs.Lut.{tagOf, byType, lutOf}
+use Rattle.lut_meaning.specs.Parts.{runA, runM, runB, runsJudged, curvesOf, matrixJudged}
+use Rattle.lut_meaning.specs.Standard.{Row, TableThere, TableNot, LaidOut, Kept, Asked}
+use Rattle.lut_meaning.specs.Judged.{good, ended}
+use Rattle.lut_meaning.proofs.Accepted.{abm-found, mft-found}
+use Rattle.lut_meaning.proofs.Inside.{matrix-inside}
+use Rattle.lut_meaning.proofs.Parts.{mab-is, mba-is}
+use Rattle.lut_meaning.proofs.Parts.{a-whole, m-whole, b-whole}
 
 -- ---- one run
 

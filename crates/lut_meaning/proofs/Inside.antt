@@ -25,14 +25,14 @@ use Rattle.mft.proofs.Inside.{Inside as MftInside, inside as inside-mft}
 use Rattle.run.specs.Run.{Placed, endOf, recordWords, recordsOf, dataEnd, Each}
 use Rattle.run.proofs.Records.{records-end}
 use Rattle.run.proofs.Runs.{run-inside}
-use Rattle.lut.specs.Abm.{noTable, tableOf, valueFrom, toldTable, abmOf}
-use Rattle.lut.specs.Answer.{Abm, mft, abm, Answer, leftBy}
-use Rattle.lut.specs.Layout.{recordsNeeded, inputs, outputs, matrixOffset, clutOffset, aOffset, mOffset, bOffset, aCurves, mCurves, bCurves, planOf, gridOf}
-use Rattle.lut.specs.Lut.{tagOf, lutOf}
-use Rattle.lut.specs.Parts.{curvesOf, matrixJudged}
-use Rattle.lut.specs.Verdict.{good, bad}
-use Rattle.lut.proofs.Accepted.{abm-found, mft-found}
-use Rattle.lut.proofs.Needed.{needed-curves}
+use Rattle.lut_meaning.specs.Abm.{noTable, tableOf, valueFrom, toldTable, abmOf}
+use Rattle.lut_meaning.specs.Answer.{Abm, mft, abm, Answer, leftBy}
+use Rattle.lut_meaning.specs.Layout.{recordsNeeded, inputs, outputs, matrixOffset, clutOffset, aOffset, mOffset, bOffset, aCurves, mCurves, bCurves, planOf, gridOf}
+use Rattle.lut_meaning.specs.Lut.{tagOf, lutOf}
+use Rattle.lut_meaning.specs.Parts.{curvesOf, matrixJudged}
+use Rattle.lut_meaning.specs.Judged.{good, bad}
+use Rattle.lut_meaning.proofs.Accepted.{abm-found, mft-found}
+use Rattle.lut_meaning.proofs.Needed.{needed-curves}
 
 each-append : (P : Placed → Type 0) (k m : List Placed) → Each P k → Each P m → Each P (k ++ m)
 unfolding Each

@@ -8,9 +8,9 @@ use Rattle.clut.specs.Clut.{Seen, is, no, clutOf}
 use Rattle.clut.specs.Table.{Table, lengthOf}
 use Rattle.curve.specs.declared.Walk.{Walk}
 use Rattle.run.specs.Run.{recordWords}
-use Rattle.lut.specs.Answer.{Abm, abm, Answer, none, refuse, orRefused}
-use Rattle.lut.specs.Layout.{toPcs, inputs, outputs, clutOffset, aCurves, mCurves, bCurves, planOf, recordsNeeded, gridOf, matrixOf, biasOf}
-use Rattle.lut.specs.Parts.{runsJudged, matrixJudged}
+use Rattle.lut_meaning.specs.Answer.{Abm, abm, Answer, none, refuse, orRefused}
+use Rattle.lut_meaning.specs.Layout.{toPcs, inputs, outputs, clutOffset, aCurves, mCurves, bCurves, planOf, recordsNeeded, gridOf, matrixOf, biasOf}
+use Rattle.lut_meaning.specs.Parts.{runsJudged, matrixJudged}
 
 -- the colour table; one that is not there has no data, at 0
 abbrev pub noTable : Table

@@ -13,8 +13,8 @@ use Rattle.fields.specs.Tag.{signatureOf}
 use Rattle.fields.specs.declared.Kind.the-variants.{Mab, Mba}
 use Rattle.curve.specs.Standard.{Laid, Within}
 use Rattle.run.specs.Run.{Placed, raised, endOf, Each}
-use Rattle.lut.specs.Abm.{noTable}
-use Rattle.lut.specs.Layout.{inputs, outputs, aOffset, mOffset, bOffset, matrixOffset, clutOffset, aCurves, mCurves, bCurves}
+use Rattle.lut_meaning.specs.Abm.{noTable}
+use Rattle.lut_meaning.specs.Layout.{inputs, outputs, aOffset, mOffset, bOffset, matrixOffset, clutOffset, aCurves, mCurves, bCurves}
 
 -- curves from an offset on, each laid out as its type says, and each at the next multiple of 4 behind the one before
 unfoldable pub Row : List ℕ → ℕ → List Placed → Type 0

@@ -8,19 +8,19 @@ use Rattle.fields.specs.House.{houseEntries, housePoints}
 use Rattle.curve.specs.declared.Walk.{Walk}
 use Rattle.curve.specs.declared.Walk.the-variants.{Crate, Book}
 use Rattle.run.specs.Run.{recordWords, recordsOf}
-use Rattle.lut.specs.Answer.{State, abm, refused, leftBy}
-use Rattle.lut.specs.Layout.{planOf}
-use Rattle.lut.specs.Lut.{lutOf, tagOf}
-use Rattle.lut.specs.Parts.{curvesOf}
+use Rattle.lut_meaning.specs.Answer.{abm, Answer, refuse, leftBy}
+use Rattle.lut_meaning.specs.Layout.{planOf}
+use Rattle.lut_meaning.specs.Lut.{lutOf, tagOf}
+use Rattle.lut_meaning.specs.Parts.{curvesOf}
 
 -- walk, profile and size, the lent words, and the answer and the words as they are left
 pub data Case : Type 0 where
-  gives : Walk → List ℕ → ℕ → List ℕ → State → List ℕ → Case
+  gives : Walk → List ℕ → ℕ → List ℕ → Answer → List ℕ → Case
 
 unfoldable pub Holds : Case → Type 0
-Holds (gives walk profile size slots s left) =
-    (lutOf walk houseEntries housePoints profile 0 size (length slots) .state ≡ s)
-    × (leftBy s (recordsOf (curvesOf walk houseEntries (tagOf profile 0 size) (planOf (tagOf profile 0 size)))) slots ≡ left)
+Holds (gives walk profile size slots a left) =
+    (lutOf walk houseEntries housePoints profile 0 size (length slots) ≡ a)
+    × (leftBy (a .state) (recordsOf (curvesOf walk houseEntries (tagOf profile 0 size) (planOf (tagOf profile 0 size)))) slots ≡ left)
 
 unfoldable pub All : List Case → Type 0
 All [] = Unit
@@ -35,9 +35,28 @@ tag =
     ++ (0x63 ∷ 0x75 ∷ 0x72 ∷ 0x76 ∷ 0 ∷ 0 ∷ 0 ∷ 0 ∷ 0 ∷ 0 ∷ 0 ∷ 0 ∷ [])
     ++ (0x70 ∷ 0x61 ∷ 0x72 ∷ 0x61 ∷ 0 ∷ 0 ∷ 0 ∷ 0 ∷ 0 ∷ 0 ∷ 0 ∷ 0 ∷ 0 ∷ 1 ∷ 0 ∷ 0 ∷ [])
 
--- three B curves, no colour table
-abbrev pub threeB : State
-threeB = abm record { toPcs = true; inputs = 3; outputs = 3; start = 0; bytes = 0; size = 0; a = 0; m = 0; b = 3 }
+-- a matrix alone, at 32: the numbers 1 to 9, and behind them 10 to 12
+abbrev pub matrixTag : List ℕ
+matrixTag =
+    (0x6d ∷ 0x41 ∷ 0x42 ∷ 0x20 ∷ 0 ∷ 0 ∷ 0 ∷ 0 ∷ 3 ∷ 3 ∷ 0 ∷ 0 ∷ 0 ∷ 0 ∷ 0 ∷ 0 ∷ [])
+    ++ (0 ∷ 0 ∷ 0 ∷ 32 ∷ 0 ∷ 0 ∷ 0 ∷ 0 ∷ 0 ∷ 0 ∷ 0 ∷ 0 ∷ 0 ∷ 0 ∷ 0 ∷ 0 ∷ [])
+    ++ (0 ∷ 0 ∷ 0 ∷ 1 ∷ 0 ∷ 0 ∷ 0 ∷ 2 ∷ 0 ∷ 0 ∷ 0 ∷ 3 ∷ 0 ∷ 0 ∷ 0 ∷ 4 ∷ [])
+    ++ (0 ∷ 0 ∷ 0 ∷ 5 ∷ 0 ∷ 0 ∷ 0 ∷ 6 ∷ 0 ∷ 0 ∷ 0 ∷ 7 ∷ 0 ∷ 0 ∷ 0 ∷ 8 ∷ [])
+    ++ (0 ∷ 0 ∷ 0 ∷ 9 ∷ 0 ∷ 0 ∷ 0 ∷ 10 ∷ 0 ∷ 0 ∷ 0 ∷ 11 ∷ 0 ∷ 0 ∷ 0 ∷ 12 ∷ [])
+
+-- a matrix, its bias and so many B curves, no colour table
+abbrev pub plain : List ℕ → List ℕ → ℕ → Answer
+plain matrix bias b =
+    record {
+      state = abm record { toPcs = true; inputs = 3; outputs = 3; start = 0; bytes = 0; size = 0; a = 0; m = 0; b = b };
+      grid = replicate 16 0;
+      matrix = matrix;
+      bias = bias;
+    }
+
+-- three B curves, and the matrix that changes nothing
+abbrev pub threeB : Answer
+threeB = plain (65536 ∷ 0 ∷ 0 ∷ 0 ∷ 65536 ∷ 0 ∷ 0 ∷ 0 ∷ 65536 ∷ []) (0 ∷ 0 ∷ 0 ∷ []) 3
 
 -- so many slots, each word 7
 abbrev pub slots : ℕ → List ℕ
@@ -55,6 +74,7 @@ cases =
     gives Crate tag 72 (slots 3) threeB (emptyAt 44 ++ emptyAt 44 ++ emptyAt 44) ∷
     gives Book tag 72 (slots 3) threeB (emptyAt 44 ++ emptyAt 56 ++ straightAt 68) ∷
     gives Book tag 72 (slots 4) threeB (emptyAt 44 ++ emptyAt 56 ++ straightAt 68 ++ slots 1) ∷
-    gives Crate tag 72 (slots 2) (refused 14) (slots 2) ∷
-    gives Book tag 72 (slots 2) (refused 14) (slots 2) ∷
+    gives Crate tag 72 (slots 2) (refuse 14) (slots 2) ∷
+    gives Book tag 72 (slots 2) (refuse 14) (slots 2) ∷
+    gives Book matrixTag 80 [] (plain (1 ∷ 2 ∷ 3 ∷ 4 ∷ 5 ∷ 6 ∷ 7 ∷ 8 ∷ 9 ∷ []) (10 ∷ 11 ∷ 12 ∷ []) 0) [] ∷
     []

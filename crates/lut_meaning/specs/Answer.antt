@@ -5,10 +5,10 @@ use mathlib.Core.List.{List, _++_}
 use lib.ListN.{length, drop, replicate}
 use Rattle.fields.specs.Refusals.{numberOf}
 use Rattle.mft.specs.Answer.{Fields, State as Mft·State, Answer as Mft·Answer, fieldsFrom}
-use Rattle.lut.specs.Verdict.{Judged, good, bad}
-use Rattle.lut.specs.declared.answer.AbmTable.{AbmTable}
-use Rattle.lut.specs.declared.answer.LutAnswer.{LutAnswer}
-use Rattle.lut.specs.declared.answer.Lut.{Lut}
+use Rattle.lut_meaning.specs.Judged.{Judged, good, bad}
+use Rattle.lut_meaning.specs.declared.AbmTable.{AbmTable}
+use Rattle.lut_meaning.specs.declared.LutAnswer.{LutAnswer}
+use Rattle.lut_meaning.specs.declared.Lut.{Lut}
 
 -- the numbers of an `mAB ` or `mBA ` tag: direction, channels, where the colour table's data lie, the bytes of an entry, and the curves
 -- of each run

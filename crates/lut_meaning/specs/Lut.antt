@@ -14,11 +14,11 @@ use Rattle.mft.specs.Answer.{answerOf}
 use Rattle.mft.specs.Layout.{isMft}
 use Rattle.mft.specs.Mft.{mftOf}
 use Rattle.run.specs.Run.{recordsOf}
-use Rattle.lut.specs.Abm.{abmOf}
-use Rattle.lut.specs.Answer.{Answer, refuse, fromMft, paper, leftBy}
-use Rattle.lut.specs.Layout.{planOf}
-use Rattle.lut.specs.Parts.{curvesOf}
-use Rattle.lut.specs.declared.answer.Lut.{Lut}
+use Rattle.lut_meaning.specs.Abm.{abmOf}
+use Rattle.lut_meaning.specs.Answer.{Answer, refuse, fromMft, paper, leftBy}
+use Rattle.lut_meaning.specs.Layout.{planOf}
+use Rattle.lut_meaning.specs.Parts.{curvesOf}
+use Rattle.lut_meaning.specs.declared.Lut.{Lut}
 
 abbrev pub tagOf : List ℕ → ℕ → ℕ → List ℕ
 tagOf profile entry size = tagAt profile entry (countedSize size)

@@ -1,0 +1,8 @@
+pub mod Parts
+pub mod Accepted
+pub mod Unique
+pub mod Needed
+pub mod Inside
+pub mod More
+pub mod Conforms
+pub mod Cases

@@ -1,0 +1,8 @@
+pub mod Judged
+pub mod Layout
+pub mod Parts
+pub mod Answer
+pub mod Abm
+pub mod Lut
+pub mod Standard
+pub mod Cases
