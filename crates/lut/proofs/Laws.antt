@@ -47,7 +47,7 @@ use Rattle.lut.specs.Verdict.{judgedFrom}
 use Rattle.lut_meaning.specs.declared.Lut.{Lut}
 use Rattle.lut_meaning.specs.declared.Plan.{Plan}
 use Rattle.lut.specs.declared.nested.Verdict.{Verdict}
-use Rattle.lut_meaning.proofs.Parts.{all-length, mab-is, mba-is}
+use Rattle.lut_meaning.proofs.Shared.{all-length, mab-is, mba-is}
 
 -- ---- the parts of the answer
 

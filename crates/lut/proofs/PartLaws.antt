@@ -22,7 +22,7 @@ use Rattle.lut_meaning.specs.Parts.{runA, runM, runB, runsJudged, curvesOf, mat
 use Rattle.lut_meaning.specs.Judged.{Judged, good, bad, ended, andThen}
 use Rattle.lut.specs.Verdict.{judgedFrom}
 use Rattle.lut_meaning.specs.declared.Plan.{Plan}
-use Rattle.lut_meaning.proofs.Parts.{a-whole, m-whole, b-whole, records-of, all-records}
+use Rattle.lut_meaning.proofs.Shared.{a-whole, m-whole, b-whole, records-of, all-records}
 use Rattle.lut.specs.declared.nested.Verdict.{Verdict}
 use Rattle.lut.proofs.nested.Verdict as verdicts
 

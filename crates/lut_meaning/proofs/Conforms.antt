@@ -38,8 +38,8 @@ use Rattle.lut_meaning.specs.Standard.{Row, TableThere, TableNot, LaidOu
 use Rattle.lut_meaning.specs.Judged.{good, ended}
 use Rattle.lut_meaning.proofs.Accepted.{abm-found, mft-found}
 use Rattle.lut_meaning.proofs.Inside.{matrix-inside}
-use Rattle.lut_meaning.proofs.Parts.{mab-is, mba-is}
-use Rattle.lut_meaning.proofs.Parts.{a-whole, m-whole, b-whole}
+use Rattle.lut_meaning.proofs.Shared.{mab-is, mba-is}
+use Rattle.lut_meaning.proofs.Shared.{a-whole, m-whole, b-whole}
 
 -- ---- one run
 

@@ -1,4 +1,4 @@
-pub mod Parts
+pub mod Shared
 pub mod Accepted
 pub mod Unique
 pub mod Needed

@@ -34,7 +34,7 @@ use Rattle.lut_meaning.specs.Parts.{runA, runM, runB, runsJudged, curves
 use Rattle.lut_meaning.specs.Judged.{Judged, good, bad, ended, andThen}
 use Rattle.lut_meaning.specs.declared.Plan.{Plan}
 use Rattle.lut_meaning.proofs.Accepted.{IsValue, not-refused, abm-found}
-use Rattle.lut_meaning.proofs.Parts.{a-whole, m-whole, b-whole, all-length}
+use Rattle.lut_meaning.proofs.Shared.{a-whole, m-whole, b-whole, all-length}
 
 -- the answers that may change: those of one refusal
 abbrev pub Is : ℕ → Answer → Type 0

@@ -15,7 +15,7 @@ use Rattle.run.proofs.Runs.{run-count}
 use Rattle.lut_meaning.specs.Layout.{toPcs, inputs, outputs, present, deviceChannels, spaceChannels, aOffset, mOffset, bOffset, aCurves, mCurves, bCurves, planOf, recordsNeeded}
 use Rattle.lut_meaning.specs.Parts.{runsJudged, curvesOf}
 use Rattle.lut_meaning.specs.Judged.{good}
-use Rattle.lut_meaning.proofs.Parts.{a-whole, m-whole, b-whole}
+use Rattle.lut_meaning.proofs.Shared.{a-whole, m-whole, b-whole}
 
 -- as many records as curves
 pub needed-curves : (walk : Walk) (limit : ℕ) (t : List ℕ) → runsJudged walk limit t (planOf t) ≡ good → length (curvesOf walk limit t (planOf t)) ≡ recordsNeeded t

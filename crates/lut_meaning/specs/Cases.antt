@@ -26,37 +26,52 @@ unfoldable pub All : List Case → Type 0
 All [] = Unit
 All (c ∷ cs) = Holds c × All cs
 
+-- the first 32 bytes of an `mAB ` tag with so many channels, whose B curves, matrix and M curves stand at these offsets, and that has
+-- nothing else
+abbrev pub head : ℕ → ℕ → ℕ → ℕ → ℕ → List ℕ
+head inputs outputs b matrix m =
+    (0x6d ∷ 0x41 ∷ 0x42 ∷ 0x20 ∷ 0 ∷ 0 ∷ 0 ∷ 0 ∷ inputs ∷ outputs ∷ 0 ∷ 0 ∷ 0 ∷ 0 ∷ 0 ∷ b ∷ [])
+    ++ (0 ∷ 0 ∷ 0 ∷ matrix ∷ 0 ∷ 0 ∷ 0 ∷ m ∷ 0 ∷ 0 ∷ 0 ∷ 0 ∷ 0 ∷ 0 ∷ 0 ∷ 0 ∷ [])
+
+abbrev pub emptyCurve : List ℕ
+emptyCurve = 0x63 ∷ 0x75 ∷ 0x72 ∷ 0x76 ∷ 0 ∷ 0 ∷ 0 ∷ 0 ∷ 0 ∷ 0 ∷ 0 ∷ 0 ∷ []
+
+-- a function of type 0 with 65536
+abbrev pub straightCurve : List ℕ
+straightCurve = 0x70 ∷ 0x61 ∷ 0x72 ∷ 0x61 ∷ 0 ∷ 0 ∷ 0 ∷ 0 ∷ 0 ∷ 0 ∷ 0 ∷ 0 ∷ 0 ∷ 1 ∷ 0 ∷ 0 ∷ []
+
 -- three channels on each side, only B curves, at 32: empty, empty at 44, a function of type 0 at 56
 abbrev pub tag : List ℕ
-tag =
-    (0x6d ∷ 0x41 ∷ 0x42 ∷ 0x20 ∷ 0 ∷ 0 ∷ 0 ∷ 0 ∷ 3 ∷ 3 ∷ 0 ∷ 0 ∷ 0 ∷ 0 ∷ 0 ∷ 32 ∷ [])
-    ++ (0 ∷ 0 ∷ 0 ∷ 0 ∷ 0 ∷ 0 ∷ 0 ∷ 0 ∷ 0 ∷ 0 ∷ 0 ∷ 0 ∷ 0 ∷ 0 ∷ 0 ∷ 0 ∷ [])
-    ++ (0x63 ∷ 0x75 ∷ 0x72 ∷ 0x76 ∷ 0 ∷ 0 ∷ 0 ∷ 0 ∷ 0 ∷ 0 ∷ 0 ∷ 0 ∷ [])
-    ++ (0x63 ∷ 0x75 ∷ 0x72 ∷ 0x76 ∷ 0 ∷ 0 ∷ 0 ∷ 0 ∷ 0 ∷ 0 ∷ 0 ∷ 0 ∷ [])
-    ++ (0x70 ∷ 0x61 ∷ 0x72 ∷ 0x61 ∷ 0 ∷ 0 ∷ 0 ∷ 0 ∷ 0 ∷ 0 ∷ 0 ∷ 0 ∷ 0 ∷ 1 ∷ 0 ∷ 0 ∷ [])
+tag = head 3 3 32 0 0 ++ emptyCurve ++ emptyCurve ++ straightCurve
 
--- a matrix alone, at 32: the numbers 1 to 9, and behind them 10 to 12
-abbrev pub matrixTag : List ℕ
-matrixTag =
-    (0x6d ∷ 0x41 ∷ 0x42 ∷ 0x20 ∷ 0 ∷ 0 ∷ 0 ∷ 0 ∷ 3 ∷ 3 ∷ 0 ∷ 0 ∷ 0 ∷ 0 ∷ 0 ∷ 0 ∷ [])
-    ++ (0 ∷ 0 ∷ 0 ∷ 32 ∷ 0 ∷ 0 ∷ 0 ∷ 0 ∷ 0 ∷ 0 ∷ 0 ∷ 0 ∷ 0 ∷ 0 ∷ 0 ∷ 0 ∷ [])
+-- one input and two outputs, only M curves, at 32: two empty ones
+abbrev pub tagOfM : List ℕ
+tagOfM = head 1 2 0 0 32 ++ emptyCurve ++ emptyCurve
+
+-- only a matrix, at 32: the numbers 1 to 9, and behind them the bias, 10 to 12
+abbrev pub tagOfMatrix : List ℕ
+tagOfMatrix =
+    head 3 3 0 32 0
     ++ (0 ∷ 0 ∷ 0 ∷ 1 ∷ 0 ∷ 0 ∷ 0 ∷ 2 ∷ 0 ∷ 0 ∷ 0 ∷ 3 ∷ 0 ∷ 0 ∷ 0 ∷ 4 ∷ [])
     ++ (0 ∷ 0 ∷ 0 ∷ 5 ∷ 0 ∷ 0 ∷ 0 ∷ 6 ∷ 0 ∷ 0 ∷ 0 ∷ 7 ∷ 0 ∷ 0 ∷ 0 ∷ 8 ∷ [])
     ++ (0 ∷ 0 ∷ 0 ∷ 9 ∷ 0 ∷ 0 ∷ 0 ∷ 10 ∷ 0 ∷ 0 ∷ 0 ∷ 11 ∷ 0 ∷ 0 ∷ 0 ∷ 12 ∷ [])
 
--- a matrix, its bias and so many B curves, no colour table
-abbrev pub plain : List ℕ → List ℕ → ℕ → Answer
-plain matrix bias b =
+-- the answer for channels, a matrix and its bias, and so many M and B curves, without a colour table
+abbrev pub plain : ℕ → ℕ → List ℕ → List ℕ → ℕ → ℕ → Answer
+plain inputs outputs matrix bias m b =
     record {
-      state = abm record { toPcs = true; inputs = 3; outputs = 3; start = 0; bytes = 0; size = 0; a = 0; m = 0; b = b };
+      state = abm record { toPcs = true; inputs = inputs; outputs = outputs; start = 0; bytes = 0; size = 0; a = 0; m = m; b = b };
       grid = replicate 16 0;
       matrix = matrix;
       bias = bias;
     }
 
--- three B curves, and the matrix that changes nothing
+-- the matrix of a tag that has none
+abbrev pub ones : List ℕ
+ones = 65536 ∷ 0 ∷ 0 ∷ 0 ∷ 65536 ∷ 0 ∷ 0 ∷ 0 ∷ 65536 ∷ []
+
 abbrev pub threeB : Answer
-threeB = plain (65536 ∷ 0 ∷ 0 ∷ 0 ∷ 65536 ∷ 0 ∷ 0 ∷ 0 ∷ 65536 ∷ []) (0 ∷ 0 ∷ 0 ∷ []) 3
+threeB = plain 3 3 ones (0 ∷ 0 ∷ 0 ∷ []) 0 3
 
 -- so many slots, each word 7
 abbrev pub slots : ℕ → List ℕ
@@ -76,5 +91,8 @@ cases =
     gives Book tag 72 (slots 4) threeB (emptyAt 44 ++ emptyAt 56 ++ straightAt 68 ++ slots 1) ∷
     gives Crate tag 72 (slots 2) (refuse 14) (slots 2) ∷
     gives Book tag 72 (slots 2) (refuse 14) (slots 2) ∷
-    gives Book matrixTag 80 [] (plain (1 ∷ 2 ∷ 3 ∷ 4 ∷ 5 ∷ 6 ∷ 7 ∷ 8 ∷ 9 ∷ []) (10 ∷ 11 ∷ 12 ∷ []) 0) [] ∷
+    -- a run that is cut off is refused before the slots are counted
+    gives Book tag 60 [] (refuse 2) [] ∷
+    gives Book tagOfM 56 (slots 2) (plain 1 2 ones (0 ∷ 0 ∷ 0 ∷ []) 2 0) (emptyAt 44 ++ emptyAt 56) ∷
+    gives Book tagOfMatrix 80 [] (plain 3 3 (1 ∷ 2 ∷ 3 ∷ 4 ∷ 5 ∷ 6 ∷ 7 ∷ 8 ∷ 9 ∷ []) (10 ∷ 11 ∷ 12 ∷ []) 0 0) [] ∷
     []

@@ -14,10 +14,10 @@ use Rattle.fields.specs.declared.Kind.the-variants.{Sf32}
 use Rattle.fields.specs.declared.Place.{Place}
 use Rattle.fields.specs.declared.Place.the-variants.{In, Past}
 use Rattle.fields.proofs.Located.{inside, past, part-is}
-use Rattle.small.specs.Answer.{Answer, value, absent, refused, triple}
-use Rattle.small.specs.Layout.{nineNumbers, signatureIn, dateBytes, measurement, conditions, firstXyz, codePoints}
-use Rattle.small.specs.Small.{matrixOf, chadOf, windowOf, tripleOf}
-use Rattle.small.specs.declared.xyz.XyzNumber.{XyzNumber}
+use Rattle.small_meaning.specs.Answer.{Answer, value, absent, refused, triple}
+use Rattle.small_meaning.specs.Layout.{nineNumbers, signatureIn, dateBytes, measurement, conditions, firstXyz, codePoints}
+use Rattle.small_meaning.specs.Small.{matrixOf, chadOf, windowOf, tripleOf}
+use Rattle.small_meaning.specs.declared.XyzNumber.{XyzNumber}
 
 -- ---- the fields of each type
 

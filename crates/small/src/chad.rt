@@ -4,29 +4,12 @@ use fields::InTag;
 use fields::Kind;
 use fields::Place;
 use fields::Refusal;
+use small_meaning::ChadAnswer;
+use small_meaning::ChadMatrix;
 ghost use mathlib.Core.Path.{_≡_};
-ghost use Rattle.small.specs.Answer.{nine, paperChad};
-ghost use Rattle.small.specs.Layout.{nineNumbers};
-ghost use Rattle.small.specs.Small.{matrixOf, chadOf};
-
-// Three rows of three numbers, named as in the Rust; each is a signed word in two's complement.
-pub struct ChadMatrix {
-    pub e00: u32,
-    pub e01: u32,
-    pub e02: u32,
-    pub e10: u32,
-    pub e11: u32,
-    pub e12: u32,
-    pub e20: u32,
-    pub e21: u32,
-    pub e22: u32,
-}
-
-pub enum ChadAnswer {
-    Value(ChadMatrix),
-    Absent,
-    Refused(Refusal),
-}
+ghost use Rattle.small_meaning.specs.Answer.{nine, paperChad};
+ghost use Rattle.small_meaning.specs.Layout.{nineNumbers};
+ghost use Rattle.small_meaning.specs.Small.{matrixOf, chadOf};
 
 fn matrix_at(tag: &[u8]) -> ChadMatrix
     ensures { λ r. ⌜ nine r ≡ nineNumbers (now (tag .entry)) ⌝ }

@@ -1,30 +1,17 @@
 // `cicp`: read_cicp_tag of moxcms.
 use crate::window;
-use crate::window::Found;
 use fields::Entry;
 use fields::InTag;
 use fields::Kind;
 use fields::Refusal;
 use fields::TAG_SIZE;
+use small_meaning::CicpAnswer;
+use small_meaning::CicpCodes;
+use small_meaning::Found;
 ghost use mathlib.Core.Path.{_≡_};
-ghost use Rattle.small.specs.Answer.{codes, paperCicp};
-ghost use Rattle.small.specs.Layout.{codePoints, fullRange};
-ghost use Rattle.small.specs.Small.{cicpOf};
-
-// The code points of ITU-T H.273, as they stand: colour primaries, transfer characteristics, matrix coefficients, and the flag of the
-// full range.
-pub struct CicpCodes {
-    pub primaries: u8,
-    pub transfer: u8,
-    pub matrix: u8,
-    pub range: u8,
-}
-
-pub enum CicpAnswer {
-    Value(CicpCodes),
-    Absent,
-    Refused(Refusal),
-}
+ghost use Rattle.small_meaning.specs.Answer.{codes, paperCicp};
+ghost use Rattle.small_meaning.specs.Layout.{codePoints, fullRange};
+ghost use Rattle.small_meaning.specs.Small.{cicpOf};
 
 // Whether the codes say full range. The Rust's full_range.
 pub fn full_range(code: CicpCodes) -> bool

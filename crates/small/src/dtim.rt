@@ -1,36 +1,16 @@
 // `dtim`: read_date_time_tag of moxcms.
 use crate::window;
-use crate::window::Found;
 use fields::Entry;
 use fields::InTag;
 use fields::Kind;
 use fields::Refusal;
+use small_meaning::DateAnswer;
+use small_meaning::DateBytes;
+use small_meaning::Found;
 ghost use mathlib.Core.Path.{_≡_};
-ghost use Rattle.small.specs.Answer.{twelve, paperDate};
-ghost use Rattle.small.specs.Layout.{dateBytes};
-ghost use Rattle.small.specs.Small.{dateOf};
-
-// Bytes 8 to 19 of the profile, as they stand.
-pub struct DateBytes {
-    pub byte8: u8,
-    pub byte9: u8,
-    pub byte10: u8,
-    pub byte11: u8,
-    pub byte12: u8,
-    pub byte13: u8,
-    pub byte14: u8,
-    pub byte15: u8,
-    pub byte16: u8,
-    pub byte17: u8,
-    pub byte18: u8,
-    pub byte19: u8,
-}
-
-pub enum DateAnswer {
-    Value(DateBytes),
-    Absent,
-    Refused(Refusal),
-}
+ghost use Rattle.small_meaning.specs.Answer.{twelve, paperDate};
+ghost use Rattle.small_meaning.specs.Layout.{dateBytes};
+ghost use Rattle.small_meaning.specs.Small.{dateOf};
 
 fn bytes_at(tag: &[u8]) -> DateBytes
     ensures { λ r. ⌜ twelve r ≡ dateBytes (now (tag .entry)) ⌝ }

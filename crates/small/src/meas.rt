@@ -1,33 +1,19 @@
 // `meas`: read_meas_tag of moxcms.
 use crate::window;
-use crate::window::Found;
 use crate::xyz;
-use crate::xyz::XyzNumber;
 use fields::Entry;
 use fields::InTag;
 use fields::Kind;
 use fields::Place;
 use fields::Refusal;
 use fields::TAG_SIZE;
+use small_meaning::Found;
+use small_meaning::MeasAnswer;
+use small_meaning::Measurement;
 ghost use mathlib.Core.Path.{_≡_};
-ghost use Rattle.small.specs.Answer.{measured, paperMeas};
-ghost use Rattle.small.specs.Layout.{measurement};
-ghost use Rattle.small.specs.Small.{windowOf, measOf};
-
-// Observer, backing, geometry, flare and illuminant, as they stand.
-pub struct Measurement {
-    pub observer: u32,
-    pub backing: XyzNumber,
-    pub geometry: u32,
-    pub flare: u32,
-    pub illuminant: u32,
-}
-
-pub enum MeasAnswer {
-    Value(Measurement),
-    Absent,
-    Refused(Refusal),
-}
+ghost use Rattle.small_meaning.specs.Answer.{measured, paperMeas};
+ghost use Rattle.small_meaning.specs.Layout.{measurement};
+ghost use Rattle.small_meaning.specs.Small.{windowOf, measOf};
 
 fn measurement_at(bytes: &[u8]) -> Measurement
     ensures { λ r. ⌜ measured r ≡ measurement (now (bytes .entry)) ⌝ }

@@ -1,20 +1,15 @@
 // `sig `: read_tech_tag of moxcms.
 use crate::window;
-use crate::window::Found;
 use fields::Entry;
 use fields::InTag;
 use fields::Kind;
 use fields::Refusal;
 use fields::TAG_SIZE;
+use small_meaning::Found;
+use small_meaning::SigAnswer;
 ghost use mathlib.Core.Path.{_≡_};
-ghost use Rattle.small.specs.Answer.{paperSig};
-ghost use Rattle.small.specs.Small.{sigOf};
-
-pub enum SigAnswer {
-    Value { signature: u32 },
-    Absent,
-    Refused(Refusal),
-}
+ghost use Rattle.small_meaning.specs.Answer.{paperSig};
+ghost use Rattle.small_meaning.specs.Small.{sigOf};
 
 // The signature in the tag at `entry`, of `size` bytes. Too short comes before past the profile.
 pub fn read_tech_tag(profile: &[u8], entry: Entry, size: u32) -> SigAnswer

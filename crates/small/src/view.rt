@@ -1,29 +1,17 @@
 // `view`: read_viewing_conditions of moxcms.
 use crate::window;
-use crate::window::Found;
 use crate::xyz;
-use crate::xyz::XyzNumber;
 use fields::Entry;
 use fields::InTag;
 use fields::Kind;
 use fields::Refusal;
+use small_meaning::Found;
+use small_meaning::ViewAnswer;
+use small_meaning::ViewingConditions;
 ghost use mathlib.Core.Path.{_≡_};
-ghost use Rattle.small.specs.Answer.{viewed, paperView};
-ghost use Rattle.small.specs.Layout.{conditions};
-ghost use Rattle.small.specs.Small.{viewOf};
-
-// Illuminant and surround, and the number at byte 32: the illuminant's type by the standard, which the Rust takes for an observer.
-pub struct ViewingConditions {
-    pub illuminant: XyzNumber,
-    pub surround: XyzNumber,
-    pub number: u32,
-}
-
-pub enum ViewAnswer {
-    Value(ViewingConditions),
-    Absent,
-    Refused(Refusal),
-}
+ghost use Rattle.small_meaning.specs.Answer.{viewed, paperView};
+ghost use Rattle.small_meaning.specs.Layout.{conditions};
+ghost use Rattle.small_meaning.specs.Small.{viewOf};
 
 fn conditions_at(bytes: &[u8]) -> ViewingConditions
     ensures { λ r. ⌜ viewed r ≡ conditions (now (bytes .entry)) ⌝ }

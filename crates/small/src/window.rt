@@ -2,16 +2,9 @@
 use fields::Entry;
 use fields::InTag;
 use fields::Place;
+use small_meaning::Found;
 ghost use mathlib.Core.Path.{_≡_};
-ghost use Rattle.small.specs.Order.{foundOf};
-
-// Where the tag's bytes lie in the profile, from and up to but not with; or why none are read.
-pub(crate) enum Found {
-    Short,
-    Past,
-    Other,
-    Tag { from: usize, to: usize },
-}
+ghost use Rattle.small_meaning.specs.Order.{foundOf};
 
 // The first `end` bytes of a tag of `size` bytes. A size under `least` is too short; then the bytes may lie past the profile; then the
 // type may be another than `signature`.

@@ -1,29 +1,17 @@
 // `XYZ `: read_xyz_tag of moxcms.
 use crate::window;
-use crate::window::Found;
 use fields::Entry;
 use fields::InTag;
 use fields::Kind;
 use fields::Refusal;
 use fields::TAG_SIZE;
+use small_meaning::Found;
+use small_meaning::XyzAnswer;
+use small_meaning::XyzNumber;
 ghost use mathlib.Core.Path.{_≡_};
 ghost use Rattle.fields.specs.Bytes.{wordsAt};
-ghost use Rattle.small.specs.Answer.{triple, paperXyz};
-ghost use Rattle.small.specs.Small.{tripleOf, xyzOf};
-
-// Three signed words in two's complement.
-pub struct XyzNumber {
-    pub x: u32,
-    pub y: u32,
-    pub z: u32,
-}
-
-// What `read_xyz_tag` answers. `Default` stands for three zeros, which are not read from the profile.
-pub enum XyzAnswer {
-    Value(XyzNumber),
-    Default,
-    Refused(Refusal),
-}
+ghost use Rattle.small_meaning.specs.Answer.{triple, paperXyz};
+ghost use Rattle.small_meaning.specs.Small.{tripleOf, xyzOf};
 
 // The three numbers from `at` on.
 pub(crate) fn xyz_at(tag: &[u8], at: u32) -> XyzNumber

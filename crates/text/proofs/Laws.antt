@@ -22,17 +22,17 @@ use Rattle.fields.proofs.Choice.{each}
 use Rattle.fields.proofs.Kind as kinds
 use Rattle.fields.proofs.Located.{inside, past, part-is}
 use Rattle.fields.proofs.Signatures.{arm, unlike, others}
-use Rattle.text.specs.Answer.{Answer, text, desc, mluc, absent, refused, span, spanFrom, unicodeFrom, paper, leftBy}
-use Rattle.text.specs.Cut.{byteOf, unitOf, keptOf}
+use Rattle.text_meaning.specs.Answer.{Answer, text, desc, mluc, absent, refused, span, spanFrom, unicodeFrom, paper, leftBy}
+use Rattle.text_meaning.specs.Cut.{byteOf, unitOf, keptOf}
 use Rattle.text.specs.Items.{faultFrom, endFrom}
-use Rattle.text.specs.Layout.{asciiEnd}
-use Rattle.text.specs.Mluc.{whole, recordsFrom, recordsAsked, recordsIn, recordWords, wordsIn}
-use Rattle.text.specs.Text.{Said, textOf, unicodeOf, descOf, faulty, slottedOf, mlucOf, byType, tagOf, stringOf}
-use Rattle.text.specs.declared.Description.{Description}
-use Rattle.text.specs.declared.TextAnswer.{TextAnswer}
+use Rattle.text_meaning.specs.Layout.{asciiEnd}
+use Rattle.text_meaning.specs.Mluc.{whole, recordsFrom, recordsAsked, recordsIn, recordWords, wordsIn}
+use Rattle.text_meaning.specs.Text.{Said, textOf, unicodeOf, descOf, faulty, slottedOf, mlucOf, byType, tagOf, stringOf}
+use Rattle.text_meaning.specs.declared.Description.{Description}
+use Rattle.text_meaning.specs.declared.TextAnswer.{TextAnswer}
 use Rattle.text.specs.declared.mluc.Fault.{Fault as CodeFault}
 use Rattle.text.specs.declared.mluc.Verdict.{Verdict}
-use Rattle.text.proofs.Records.{words-length, whole-count}
+use Rattle.text_meaning.proofs.Shared.{words-length, whole-count, as-text, as-mluc, as-desc}
 
 -- ---- `text`
 
@@ -134,37 +134,6 @@ unfolding descOf
 desc-leaves t s ws =
     let P : Answer → Type 0 = λ a. leftBy a ws s ≡ s in
     each P (ltb (length t) 12) _ _ (λ _. refl) (λ _. each P (ltb (length t) (asciiEnd t)) _ _ (λ _. refl) (λ _. refl))
-
-mluc-text : signatureOf Mluc ≡ signatureOf Text → ⊥
-unfolding signatureOf
-mluc-text e = omega arith
-
-desc-text : signatureOf Desc ≡ signatureOf Text → ⊥
-unfolding signatureOf
-desc-text e = omega arith
-
-desc-mluc : signatureOf Desc ≡ signatureOf Mluc → ⊥
-unfolding signatureOf
-desc-mluc e = omega arith
-
--- a tag of a type is read as that type
-module _ (t : List ℕ) (words : ℕ) where
-  pub as-text : u32At t 0 ≡ signatureOf Text → byType t words ≡ textOf t
-  unfolding byType
-  as-text i = rw (eq-eqb _ _ i)
-
-  pub as-mluc : u32At t 0 ≡ signatureOf Mluc → byType t words ≡ mlucOf t words
-  unfolding byType
-  as-mluc i =
-      let n : u32At t 0 ≡ signatureOf Text → ⊥ = λ m. mluc-text (sym i ∙ m) in
-      rw (ne-eqb _ _ n, eq-eqb _ _ i)
-
-  pub as-desc : u32At t 0 ≡ signatureOf Desc → byType t words ≡ descOf t
-  unfolding byType
-  as-desc i =
-      let n : u32At t 0 ≡ signatureOf Text → ⊥ = λ m. desc-text (sym i ∙ m) in
-      let o : u32At t 0 ≡ signatureOf Mluc → ⊥ = λ m. desc-mluc (sym i ∙ m) in
-      rw (ne-eqb _ _ n, ne-eqb _ _ o, eq-eqb _ _ i)
 
 module _ (t s : List ℕ) (k : Kind) (h : k ≡ kindOf (u32At t 0)) (r : TextAnswer) where
   named : (a : Kind) → (Kind.Other ≡ a → ⊥) → k ≡ a → u32At t 0 ≡ signatureOf a

@@ -1,10 +1,2 @@
-pub mod Cutting
 pub mod Records
 pub mod Laws
-pub mod Unique
-pub mod Found
-pub mod Conforms
-pub mod Proper
-pub mod Inside
-pub mod More
-pub mod Cases

@@ -15,11 +15,12 @@ use borrow.Author.Tests.{eq-eqb, ne-eqb, lt-ltb, le-ltb, ltb-false}
 use Rattle.fields.specs.Bytes.{u16At, u32At}
 use Rattle.fields.proofs.Stores.{sets-append}
 use Rattle.text.specs.Items.{recordFrom, faultFrom, seenFrom}
-use Rattle.text.specs.Layout.{headerEnd, stringEnd}
-use Rattle.text.specs.Mluc.{Localized, Fault, header, string, Seen, is, no, whole, stopped, Ran, stops, first, even, localizedAt, recordAt, follow, recordsFrom, recordsAsked, recordWords, wordsOf, wordsIn}
+use Rattle.text_meaning.specs.Layout.{headerEnd, stringEnd}
+use Rattle.text_meaning.specs.Mluc.{Localized, Fault, header, string, Seen, is, no, whole, stopped, Ran, stops, first, even, localizedAt, recordAt, follow, recordsFrom, recordsAsked, recordWords, wordsOf, wordsIn}
 use Rattle.text.specs.declared.mluc.Fault.{Fault as CodeFault}
 use Rattle.text.specs.declared.mluc.Item.{Item}
 use Rattle.text.specs.declared.mluc.TextRecord.{TextRecord}
+use Rattle.text_meaning.proofs.Shared.{words-length, whole-count}
 use Rattle.text.proofs.mluc.Item as items
 
 -- ---- one record
@@ -94,23 +95,6 @@ module _ (t : List ℕ) (n : ℕ) (h : n ≡ u32At t 8) where
   pub asked-count : (n ≡ 0 → ⊥) → n ≡ recordsAsked t
   unfolding recordsAsked
   asked-count z = simp (← h, ne-eqb _ _ z)
-
--- ---- the words of records
-
-pub words-length : (rs : List Localized) → length (wordsIn rs) ≡ length rs * recordWords
-unfolding wordsIn
-words-length [] = refl
-words-length (r ∷ rs) = omega (arith, words-length rs)
-
--- what is read whole is as much as was asked for
-pub whole-count : (t : List ℕ) (k n : ℕ) → recordsFrom t k n .end ≡ whole → length (recordsFrom t k n .records) ≡ n
-unfolding recordsFrom
-whole-count t k zero = λ h. refl
-whole-count t k (suc n) = by (recordAt t k) (whole-count t (k + 1) n)
-  where
-    by : (x : Seen) → (recordsFrom t (k + 1) n .end ≡ whole → length (recordsFrom t (k + 1) n .records) ≡ n) → follow x (λ r. first r (recordsFrom t (k + 1) n)) .end ≡ whole → length (follow x (λ r. first r (recordsFrom t (k + 1) n)) .records) ≡ suc n
-    by (is r) ih h = ap suc (ih h)
-    by (no f) ih h = let z : _≡_ {A = ℕ} 0 1 = cc in absurd (omega arith)
 
 -- ---- the loop that writes
 

@@ -1,5 +1,5 @@
 -- What the code's records, faults and verdicts stand for.
-use Rattle.text.specs.Mluc.{Localized, Fault, header, string, Seen, is, no, End, whole, stopped}
+use Rattle.text_meaning.specs.Mluc.{Localized, Fault, header, string, Seen, is, no, End, whole, stopped}
 use Rattle.text.specs.declared.mluc.Fault.{Fault as CodeFault}
 use Rattle.text.specs.declared.mluc.Item.{Item}
 use Rattle.text.specs.declared.mluc.TextRecord.{TextRecord}

@@ -2,7 +2,7 @@
 use fields::InTag;
 ghost use mathlib.Core.Path.{_≡_};
 ghost use Prim.Native.Nat.{_^_, _≤_, _<_};
-ghost use Rattle.text.specs.Cut.{byteOf, unitOf, keptOf};
+ghost use Rattle.text_meaning.specs.Cut.{byteOf, unitOf, keptOf};
 
 // Of n bytes.
 pub(crate) fn kept_bytes(tag: &[u8], start: InTag, n: u32) -> u32

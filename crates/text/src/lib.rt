@@ -8,33 +8,14 @@ use fields::Kind;
 use fields::Place;
 use fields::Refusal;
 pub use mluc::TEXT_RECORD_WORDS;
+pub use text_meaning::Description;
+pub use text_meaning::Range;
+pub use text_meaning::TextAnswer;
 ghost use mathlib.Core.Path.{_≡_};
 ghost use Prim.Native.Nat.{_^_, _≤_, _<_};
 ghost use lib.ListN.{length};
-ghost use Rattle.text.specs.Answer.{paper, unicodeFrom};
-ghost use Rattle.text.specs.Text.{Said, textOf, unicodeOf, descOf, byType, tagOf, stringOf};
-
-// A range of the tag, in bytes.
-pub struct Range {
-    pub start: InTag,
-    pub length: u32,
-}
-
-// The ASCII string of `desc`, and its Unicode string with the language.
-pub struct Description {
-    pub ascii: Range,
-    pub language: u32,
-    pub unicode: Range,
-}
-
-// What the reader of text answers. The records of `mluc` are in the slots.
-pub enum TextAnswer {
-    Text(Range),
-    Desc(Description),
-    Mluc { records: u32 },
-    Absent,
-    Refused(Refusal),
-}
+ghost use Rattle.text_meaning.specs.Answer.{paper, unicodeFrom};
+ghost use Rattle.text_meaning.specs.Text.{Said, textOf, unicodeOf, descOf, byType, tagOf, stringOf};
 
 // `text`: the rest of the tag.
 fn read_text(tag: &[u8]) -> TextAnswer

@@ -1,15 +1,15 @@
 // `mluc`: its records are judged first, and written once all are judged.
-use crate::TextAnswer;
 use fields::InTag;
 use fields::Refusal;
+use text_meaning::TextAnswer;
 ghost use mathlib.Core.Path.{_≡_};
 ghost use mathlib.Core.List.{_++_};
 ghost use Prim.Native.Nat.{_+_, _*_, _≤_};
 ghost use lib.ListN.{length, drop};
 ghost use lib.Seq.{sets};
-ghost use Rattle.text.specs.Mluc.{whole, recordAt, recordsFrom, recordsAsked, recordWords, wordsOf, wordsIn};
-ghost use Rattle.text.specs.Answer.{paper};
-ghost use Rattle.text.specs.Text.{Said, faulty as faultyBy, slottedOf, mlucOf};
+ghost use Rattle.text_meaning.specs.Mluc.{whole, recordAt, recordsFrom, recordsAsked, recordWords, wordsOf, wordsIn};
+ghost use Rattle.text_meaning.specs.Answer.{paper};
+ghost use Rattle.text_meaning.specs.Text.{Said, faulty as faultyBy, slottedOf, mlucOf};
 ghost use Rattle.text.specs.Items.{recordFrom, faultFrom, seenFrom, endFrom};
 
 // The words of a record, and so of a slot.

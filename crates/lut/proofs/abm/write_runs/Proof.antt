@@ -4,7 +4,7 @@ use native.Mathlib.Omega.{arith}
 use mathlib.Core.Path.{refl}
 use lib.ListN.{length-take, length-drop}
 use borrow.Author.Needs.{needs}
-use Rattle.lut_meaning.proofs.Parts.{a-whole, m-whole, b-whole}
+use Rattle.lut_meaning.proofs.Shared.{a-whole, m-whole, b-whole}
 use Rattle.lut.proofs.PartLaws.{runs-written}
 use Rattle.lut.proofs.abm.write_runs.Statement.{statement}
 use Rattle.lut.proofs.abm.write_runs.Tie as tie

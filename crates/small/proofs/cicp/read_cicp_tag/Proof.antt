@@ -1,8 +1,8 @@
 -- `small::cicp::read_cicp_tag` meets its contract: each way out is a law of the order.
 -- Assumes nothing.
 use Rattle.fields.specs.Tag.{signatureOf}
-use Rattle.small.specs.Layout.{codePoints}
-use Rattle.small.proofs.Order.{answer-laws, answer-fields, starts, ends}
+use Rattle.small_meaning.specs.Layout.{codePoints}
+use Rattle.small_meaning.proofs.Order.{answer-laws, answer-fields, starts, ends}
 use borrow.Author.Needs.{needs}
 use Rattle.small.proofs.cicp.read_cicp_tag.Statement.{statement}
 use Rattle.small.proofs.cicp.read_cicp_tag.Tie as tie

@@ -3,7 +3,7 @@
 use mathlib.Core.Path.{sym}
 use lib.Seq.{length-take-le}
 use Rattle.fields.specs.Tag.{signatureOf}
-use Rattle.small.proofs.Order.{answer-laws, answer-this, covers}
+use Rattle.small_meaning.proofs.Order.{answer-laws, answer-this, covers}
 use borrow.Author.Needs.{needs}
 use Rattle.small.proofs.dtim.read_date_time_tag.Statement.{statement}
 use Rattle.small.proofs.dtim.read_date_time_tag.Tie as tie

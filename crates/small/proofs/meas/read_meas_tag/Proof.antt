@@ -1,7 +1,7 @@
 -- `small::meas::read_meas_tag` meets its contract: each way out is a law of the order.
 -- Assumes nothing.
 use Rattle.fields.specs.Tag.{signatureOf}
-use Rattle.small.proofs.Order.{answer-laws, answer-this}
+use Rattle.small_meaning.proofs.Order.{answer-laws, answer-this}
 use borrow.Author.Needs.{needs}
 use Rattle.small.proofs.meas.read_meas_tag.Statement.{statement}
 use Rattle.small.proofs.meas.read_meas_tag.Tie as tie

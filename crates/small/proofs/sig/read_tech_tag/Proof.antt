@@ -1,9 +1,9 @@
 -- `small::sig::read_tech_tag` meets its contract: each way out is a law of the order.
 -- Assumes nothing.
 use Rattle.fields.specs.Tag.{signatureOf}
-use Rattle.small.specs.Layout.{signatureIn}
+use Rattle.small_meaning.specs.Layout.{signatureIn}
 use Rattle.small.proofs.Laws.{one-is}
-use Rattle.small.proofs.Order.{answer-laws, answer-fields, starts, ends}
+use Rattle.small_meaning.proofs.Order.{answer-laws, answer-fields, starts, ends}
 use borrow.Author.Needs.{needs}
 use Rattle.small.proofs.sig.read_tech_tag.Statement.{statement}
 use Rattle.small.proofs.sig.read_tech_tag.Tie as tie

@@ -1,6 +1,6 @@
 -- `small::window::find` meets its contract: each way out is a law of `foundOf`, and a part lies where `locate` found it.
 -- Assumes nothing.
-use Rattle.small.proofs.Order.{find-laws}
+use Rattle.small_meaning.proofs.Order.{find-laws}
 use Rattle.fields.proofs.Located.{begins, starts, ends}
 use borrow.Author.Needs.{needs}
 use Rattle.small.proofs.window.find.Statement.{statement}

@@ -1,8 +1,8 @@
 -- `small::xyz::read_xyz_tag` meets its contract: each way out is a law of the order.
 -- Assumes nothing.
 use Rattle.fields.specs.Tag.{signatureOf}
-use Rattle.small.specs.Small.{tripleOf}
-use Rattle.small.proofs.Order.{answer-laws, answer-tag, starts, ends}
+use Rattle.small_meaning.specs.Small.{tripleOf}
+use Rattle.small_meaning.proofs.Order.{answer-laws, answer-tag, starts, ends}
 use borrow.Author.Needs.{needs}
 use Rattle.small.proofs.xyz.read_xyz_tag.Statement.{statement}
 use Rattle.small.proofs.xyz.read_xyz_tag.Tie as tie

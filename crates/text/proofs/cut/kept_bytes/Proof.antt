@@ -4,8 +4,8 @@ use Prim.Native.Nat.{_≤_}
 use native.Mathlib.Omega.{arith}
 use mathlib.Core.Path.{_≡_, refl}
 use borrow.Author.Needs.{needs}
-use Rattle.text.specs.Cut.{byteOf, keptOf}
-use Rattle.text.proofs.Cutting.{kept-ends, kept-stops, kept-turns, byte-read}
+use Rattle.text_meaning.specs.Cut.{byteOf, keptOf}
+use Rattle.text_meaning.proofs.Cutting.{kept-ends, kept-stops, kept-turns, byte-read}
 use Rattle.text.proofs.cut.kept_bytes.Statement.{statement}
 use Rattle.text.proofs.cut.kept_bytes.Tie as tie
 

@@ -4,8 +4,8 @@ use Prim.Native.Nat.{_≤_}
 use native.Mathlib.Omega.{arith}
 use mathlib.Core.Path.{_≡_, refl}
 use borrow.Author.Needs.{needs}
-use Rattle.text.specs.Cut.{unitOf, keptOf}
-use Rattle.text.proofs.Cutting.{kept-ends, kept-stops, kept-turns, unit-read}
+use Rattle.text_meaning.specs.Cut.{unitOf, keptOf}
+use Rattle.text_meaning.proofs.Cutting.{kept-ends, kept-stops, kept-turns, unit-read}
 use Rattle.text.proofs.cut.kept_units.Statement.{statement}
 use Rattle.text.proofs.cut.kept_units.Tie as tie
 

@@ -6,7 +6,7 @@ use native.Mathlib.Omega.{arith}
 use mathlib.Core.Path.{_≡_}
 use lib.ListN.{length}
 use borrow.Author.Needs.{needs}
-use Rattle.text.specs.Mluc.{recordsFrom}
+use Rattle.text_meaning.specs.Mluc.{recordsFrom}
 use Rattle.text.proofs.Records.{fewer, judge-begins, judge-turns, judge-stops, judge-ends}
 use Rattle.text.proofs.mluc.check_records.Statement.{statement}
 use Rattle.text.proofs.mluc.check_records.Tie as tie

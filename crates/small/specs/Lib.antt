@@ -1,5 +1,0 @@
-pub mod Answer
-pub mod Order
-pub mod Layout
-pub mod Small
-pub mod Standard

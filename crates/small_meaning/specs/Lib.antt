@@ -1,0 +1,6 @@
+pub mod Answer
+pub mod Order
+pub mod Layout
+pub mod Small
+pub mod Standard
+pub mod Cases

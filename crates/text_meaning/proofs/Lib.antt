@@ -1,0 +1,9 @@
+pub mod Shared
+pub mod Cutting
+pub mod Unique
+pub mod Found
+pub mod Conforms
+pub mod Proper
+pub mod Inside
+pub mod More
+pub mod Cases

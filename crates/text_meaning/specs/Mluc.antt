@@ -1,0 +1,88 @@
+-- The records of an `mluc` tag: as far as they are read, and how the reading ends.
+use Prim.Native.Nat.{ℕ, zero, suc, _+_, _*_, _/_}
+use mathlib.Core.Bool.{cond}
+use mathlib.Core.List.{List, [], _∷_, _++_}
+use lib.Dec.{ltb, eqb}
+use lib.ListN.{length}
+use Rattle.text_meaning.specs.Layout.{recordCount, headerEnd, languageAt, countryAt, stringLength, stringStart, stringEnd}
+
+-- a record: language and country, two bytes each, and where its string lies in the tag
+pub record Localized : Type 0 where
+  pub language : ℕ
+  pub country : ℕ
+  pub start : ℕ
+  pub bytes : ℕ
+
+-- why a record cannot be read: its header is past the tag, or its string
+pub data Fault : Type 0 where
+  header : Fault
+  string : Fault
+
+-- what stands at a record's place
+pub data Seen : Type 0 where
+  is : Localized → Seen
+  no : Fault → Seen
+
+-- all records are read, or the reading stops
+pub data End : Type 0 where
+  whole : End
+  stopped : Fault → End
+
+-- the records as far as the reading gets, and its end
+pub record Ran : Type 0 where
+  pub records : List Localized
+  pub end : End
+
+abbrev pub done : Ran
+done = record { records = []; end = whole }
+
+abbrev pub stops : Fault → Ran
+stops f = record { records = []; end = stopped f }
+
+abbrev pub first : Localized → Ran → Ran
+first r rest = record { records = r ∷ rest .records; end = rest .end }
+
+-- an odd last byte is no part of a string of two-byte units
+unfoldable pub even : ℕ → ℕ
+even n = n / 2 * 2
+
+-- record k, as its header has it; nothing is trimmed
+abbrev pub localizedAt : List ℕ → ℕ → Localized
+localizedAt t k = record { language = languageAt t k; country = countryAt t k; start = stringStart t k; bytes = even (stringLength t k) }
+
+-- what stands at its place: the header first, then its string
+unfoldable pub recordAt : List ℕ → ℕ → Seen
+recordAt t k =
+    cond (ltb (length t) (headerEnd k)) (no header) (
+    cond (ltb (length t) (stringEnd t k)) (no string) (
+    is (localizedAt t k)))
+
+-- what is seen at a place, and what follows a record there
+abbrev pub follow : Seen → (Localized → Ran) → Ran
+follow (is r) next = next r
+follow (no f) next = stops f
+
+-- n records from record k on, header and string in turn
+unfoldable pub recordsFrom : List ℕ → ℕ → ℕ → Ran
+recordsFrom t k zero = done
+recordsFrom t k (suc n) = follow (recordAt t k) (λ r. first r (recordsFrom t (k + 1) n))
+
+-- the first record is always read
+unfoldable pub recordsAsked : List ℕ → ℕ
+recordsAsked t = cond (eqb (recordCount t) 0) 1 (recordCount t)
+
+-- the records of a tag
+unfoldable pub recordsIn : List ℕ → Ran
+recordsIn t = recordsFrom t 0 (recordsAsked t)
+
+-- words of a record
+abbrev pub recordWords : ℕ
+recordWords = 4
+
+abbrev pub wordsOf : Localized → List ℕ
+wordsOf r = r .language ∷ r .country ∷ r .start ∷ r .bytes ∷ []
+
+-- the words of records, one behind the other
+unfoldable pub wordsIn : List Localized → List ℕ
+wordsIn [] = []
+wordsIn (r ∷ rs) = wordsOf r ++ wordsIn rs
