@@ -13,7 +13,6 @@ pub use lut_meaning::AbmTable;
 pub use lut_meaning::Lut;
 pub use lut_meaning::LutAnswer;
 pub use nested::RECORD_WORDS;
-ghost use mathlib.Core.Path.{_≡_};
 ghost use lib.ListN.{length};
 ghost use Prim.Native.Nat.{_^_, _<_};
 ghost use Rattle.lut_meaning.specs.Lut.{Said, tagOf, byType, lutOf};

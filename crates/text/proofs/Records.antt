@@ -1,6 +1,6 @@
 -- The records of `mluc`: one record as the code meets it, the loop that judges them, and the loop that writes them.
 -- Assumes nothing.
-use Prim.Native.Nat.{ℕ, zero, suc, _+_, _-_, _*_, _/_, _≤_, _<_}
+use Prim.Native.Nat.{ℕ, suc, _+_, _-_, _*_, _/_, _≤_, _<_}
 use native.Mathlib.Omega.{arith}
 use native.Mathlib.Nat.{sub-zero, zero-add}
 use mathlib.Core.Path.{_≡_, refl, sym, ap, _∙_}
@@ -16,7 +16,7 @@ use Rattle.fields.specs.Bytes.{u16At, u32At}
 use Rattle.fields.proofs.Stores.{sets-append}
 use Rattle.text.specs.Items.{recordFrom, faultFrom, seenFrom}
 use Rattle.text_meaning.specs.Layout.{headerEnd, stringEnd}
-use Rattle.text_meaning.specs.Mluc.{Localized, Fault, header, string, Seen, is, no, whole, stopped, Ran, stops, first, even, localizedAt, recordAt, follow, recordsFrom, recordsAsked, recordWords, wordsOf, wordsIn}
+use Rattle.text_meaning.specs.Mluc.{Localized, Fault, header, string, is, no, whole, stopped, Ran, stops, first, even, localizedAt, recordAt, recordsFrom, recordsAsked, recordWords, wordsOf, wordsIn}
 use Rattle.text.specs.declared.mluc.Fault.{Fault as CodeFault}
 use Rattle.text.specs.declared.mluc.Item.{Item}
 use Rattle.text.specs.declared.mluc.TextRecord.{TextRecord}
