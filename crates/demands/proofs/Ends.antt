@@ -1,0 +1,135 @@
+-- How a call ends: a refusal has one of the eighteen numbers, and only a value changes the lent slots.
+-- Assumes nothing.
+use Prim.Native.Nat.{ℕ, _≤_}
+use native.Mathlib.Omega.{arith}
+use mathlib.Core.Path.{_≡_, refl, ap, subst, _∙_}
+use mathlib.Core.List.{List}
+use Rattle.fields.specs.Refusals.{numberOf}
+use Rattle.fields.specs.declared.Refusal.{Refusal}
+use Rattle.fields.specs.declared.Refusal.the-variants.{PastProfile, TagTooShort, OtherLut, GridOverflow, GridZero, GridTooLarge, GridDimension, EntrySize, OtherCurve, TooManyEntries, CurveRunsOut, FunctionType, ZeroDivision, TooFewSlots, BadTable, GridOverLimit, BadChad, LastPoint}
+use Rattle.curve.specs.declared.CurveAnswer.{CurveAnswer}
+use Rattle.lut.specs.Answer.{State, mft, abm, absent as State·absent, refused as State·refused, stateFrom, leftBy as Lut·leftBy}
+use Rattle.lut.specs.declared.answer.LutAnswer.{LutAnswer}
+use Rattle.small.specs.declared.chad.ChadAnswer.{ChadAnswer}
+use Rattle.small.specs.declared.cicp.CicpAnswer.{CicpAnswer}
+use Rattle.small.specs.declared.dtim.DateAnswer.{DateAnswer}
+use Rattle.small.specs.declared.meas.MeasAnswer.{MeasAnswer}
+use Rattle.small.specs.declared.sig.SigAnswer.{SigAnswer}
+use Rattle.small.specs.declared.view.ViewAnswer.{ViewAnswer}
+use Rattle.small.specs.declared.xyz.XyzAnswer.{XyzAnswer}
+use Rattle.text.specs.Answer.{Answer as Text·Answer, leftBy as Text·leftBy}
+use Rattle.text.specs.declared.TextAnswer.{TextAnswer}
+use Rattle.demands.specs.Readers.{Reader, lut, trc, string, chad, sig, date, meas, view, xyz, cicp, Call, Result, Numbers, numbers, meaning, left, Outcome, value, default, absent, refused, outcome, lutOutcome, textOutcome, Library, ends, Promised}
+
+-- ---- numbers of refusals
+
+numbered-so : (why : Refusal) → (1 ≤ numberOf why) × (numberOf why ≤ 18)
+numbered-so PastProfile = (omega arith, omega arith)
+numbered-so TagTooShort = (omega arith, omega arith)
+numbered-so OtherLut = (omega arith, omega arith)
+numbered-so GridOverflow = (omega arith, omega arith)
+numbered-so GridZero = (omega arith, omega arith)
+numbered-so GridTooLarge = (omega arith, omega arith)
+numbered-so GridDimension = (omega arith, omega arith)
+numbered-so EntrySize = (omega arith, omega arith)
+numbered-so OtherCurve = (omega arith, omega arith)
+numbered-so TooManyEntries = (omega arith, omega arith)
+numbered-so CurveRunsOut = (omega arith, omega arith)
+numbered-so FunctionType = (omega arith, omega arith)
+numbered-so ZeroDivision = (omega arith, omega arith)
+numbered-so TooFewSlots = (omega arith, omega arith)
+numbered-so BadTable = (omega arith, omega arith)
+numbered-so GridOverLimit = (omega arith, omega arith)
+numbered-so BadChad = (omega arith, omega arith)
+numbered-so LastPoint = (omega arith, omega arith)
+
+-- an outcome that is no refusal, or has the number of one
+abbrev Numbered : Outcome → Type 0
+Numbered value = Unit
+Numbered default = Unit
+Numbered absent = Unit
+Numbered (refused n) = (1 ≤ n) × (n ≤ 18)
+
+result-numbered : (r : Reader) (x : Result r) → Numbered (outcome r (numbers r x))
+result-numbered (lut walk) x = by (x .answer)
+  where
+    by : (a : LutAnswer) → Numbered (lutOutcome (stateFrom a))
+    by (LutAnswer.Mft t) = tt
+    by (LutAnswer.Abm t) = tt
+    by LutAnswer.Absent = tt
+    by (LutAnswer.Refused why) = numbered-so why
+result-numbered (trc walk) (CurveAnswer.Value curve consumed) = tt
+result-numbered (trc walk) CurveAnswer.Absent = tt
+result-numbered (trc walk) (CurveAnswer.Refused why) = numbered-so why
+result-numbered string (TextAnswer.Text s) = tt
+result-numbered string (TextAnswer.Desc d) = tt
+result-numbered string (TextAnswer.Mluc n) = tt
+result-numbered string TextAnswer.Absent = tt
+result-numbered string (TextAnswer.Refused why) = numbered-so why
+result-numbered chad (ChadAnswer.Value m) = tt
+result-numbered chad ChadAnswer.Absent = tt
+result-numbered chad (ChadAnswer.Refused why) = numbered-so why
+result-numbered sig (SigAnswer.Value s) = tt
+result-numbered sig SigAnswer.Absent = tt
+result-numbered sig (SigAnswer.Refused why) = numbered-so why
+result-numbered date (DateAnswer.Value d) = tt
+result-numbered date DateAnswer.Absent = tt
+result-numbered date (DateAnswer.Refused why) = numbered-so why
+result-numbered meas (MeasAnswer.Value m) = tt
+result-numbered meas MeasAnswer.Absent = tt
+result-numbered meas (MeasAnswer.Refused why) = numbered-so why
+result-numbered view (ViewAnswer.Value v) = tt
+result-numbered view ViewAnswer.Absent = tt
+result-numbered view (ViewAnswer.Refused why) = numbered-so why
+result-numbered xyz (XyzAnswer.Value n) = tt
+result-numbered xyz XyzAnswer.Default = tt
+result-numbered xyz (XyzAnswer.Refused why) = numbered-so why
+result-numbered cicp (CicpAnswer.Value n) = tt
+result-numbered cicp CicpAnswer.Absent = tt
+result-numbered cicp (CicpAnswer.Refused why) = numbered-so why
+
+pub numbered : (l : Library) (r : Reader) (c : Call) (n : ℕ) → ends l r c ≡ refused n → (1 ≤ n) × (n ≤ 18)
+numbered l r c n e = subst Numbered e (result-numbered r (l .returns r c))
+
+-- ---- slots
+
+-- an outcome other than a value
+abbrev pub Spares : Outcome → Type 0
+Spares value = ⊥
+Spares default = Unit
+Spares absent = Unit
+Spares (refused n) = Unit
+
+pub left-spared : (r : Reader) (c : Call) → Spares (outcome r (meaning r c)) → left r c ≡ c .slots
+left-spared (lut walk) c = by (meaning (lut walk) c .state) _
+  where
+    by : (s : State) (words : List ℕ) → Spares (lutOutcome s) → Lut·leftBy s words (c .slots) ≡ c .slots
+    by (mft f) words h = refl
+    by (abm f) words h = absurd h
+    by State·absent words h = refl
+    by (State·refused n) words h = refl
+left-spared string c = by (meaning string c) _
+  where
+    by : (a : Text·Answer) (words : List ℕ) → Spares (textOutcome a) → Text·leftBy a words (c .slots) ≡ c .slots
+    by (Text·Answer.text s) words h = refl
+    by (Text·Answer.desc s u) words h = refl
+    by (Text·Answer.mluc n) words h = absurd h
+    by Text·Answer.absent words h = refl
+    by (Text·Answer.refused n) words h = refl
+left-spared (trc walk) c = λ h. refl
+left-spared chad c = λ h. refl
+left-spared sig c = λ h. refl
+left-spared date c = λ h. refl
+left-spared meas c = λ h. refl
+left-spared view c = λ h. refl
+left-spared xyz c = λ h. refl
+left-spared cicp c = λ h. refl
+
+-- ---- of a library that keeps the contracts
+
+module _ (l : Library) (p : Promised l) where
+  pub ends-so : (r : Reader) (c : Call) → ends l r c ≡ outcome r (meaning r c)
+  ends-so r c = ap (outcome r) (p .answers r c)
+
+  pub leaves-spared : (r : Reader) (c : Call) → Spares (ends l r c) → l .leaves r c ≡ c .slots
+  leaves-spared r c h = p .leaves-so r c ∙ left-spared r c (subst Spares (ends-so r c) h)
