@@ -1,0 +1,210 @@
+-- Demand 2's proved half, of every library that keeps the contracts: one answer a call, and conformance to the standards' layouts.
+-- Assumes nothing.
+use Prim.Native.Nat.{ℕ, _+_, _/_, _≤_, _<_, _^_}
+use native.Mathlib.Omega.{arith}
+use mathlib.Core.Path.{_≡_, refl, sym, ap, subst, _∙_}
+use mathlib.Core.Bool.{Bool, true, false, _&&_}
+use mathlib.Core.List.{List, _++_}
+use mathlib.Core.Logic.{_⊎_, inl, inr}
+use lib.Dec.{leb, ltb}
+use lib.ListN.{length, drop}
+use borrow.Author.Tests.{le-ltb}
+use Rattle.fields.specs.declared.Kind.the-variants.{Sig, Dtim, Meas, View, Xyz, Cicp}
+use Rattle.clut.specs.Table.{Table, inGrid, numberOf, lengthOf}
+use Rattle.curve.specs.Answer.{Answer as Curve·Answer}
+use Rattle.curve.specs.Shape.{Shape, wordsOf, stepOf}
+use Rattle.curve.specs.Standard.{Laid as CurveLaid, Within as CurveWithin}
+use Rattle.curve.specs.declared.Walk.{Walk}
+use Rattle.curve.specs.declared.Walk.the-variants.{Book}
+use Rattle.curve.proofs.Conforms.{lone-accepted, laid as curve-laid-out}
+use Rattle.curve.proofs.Inside.{accepted-inside}
+use Rattle.curve.proofs.Unique.{unique as curve-unique}
+use Rattle.run.specs.Run.{Placed, recordWords, recordsOf}
+use Rattle.mft.specs.Answer.{Fields, answerOf, fieldsOf, toldTable as Mft·toldTable}
+use Rattle.mft.specs.Standard.{LaidOut as MftLaidOut, Asked as MftAsked}
+use Rattle.lut.specs.Abm.{toldTable as Abm·toldTable, valueFrom}
+use Rattle.lut.specs.Answer.{mft, abm, Abm, Answer as Lut·Answer}
+use Rattle.lut.specs.Layout.{planOf, recordsNeeded}
+use Rattle.lut.specs.Parts.{curvesOf, runA, runM, runB}
+use Rattle.lut.specs.Standard.{LaidOut as AbmLaidOut, Asked as AbmAsked}
+use Rattle.lut.proofs.Conforms.{lone-conforms, conforms-curves, laid as abm-laid-out, mft-conforms, mft-laid as mft-laid-out}
+use Rattle.lut.proofs.Inside.{mft-inside as mft-in-tag}
+use Rattle.lut.proofs.Unique.{unique as lut-unique}
+use Rattle.small.specs.Answer.{Answer as Small·Answer}
+use Rattle.small.specs.Layout.{signatureIn, dateBytes, measurement, conditions, firstXyz, codePoints}
+use Rattle.small.specs.Small.{chadOf, sigOf, dateOf, measOf, viewOf, xyzOf, cicpOf}
+use Rattle.small.specs.Standard.{Laid, LaidNine, Always, InProfile, Whole36, SameDate, Accepts, AcceptsOnly}
+use Rattle.small.proofs.Conforms.{chad-accepts, chad-laid, sig-accepts, sig-laid, date-accepts, date-laid, meas-accepts, meas-laid, view-accepts, view-laid, xyz-accepts, xyz-laid, cicp-accepts, cicp-laid}
+use Rattle.small.proofs.Unique.{chad-unique, sig-unique, date-unique, meas-unique, view-unique, xyz-unique, cicp-unique}
+use Rattle.table.specs.Answer.{Told}
+use Rattle.table.specs.Order.{Before}
+use Rattle.table.specs.View.{numbersOf, tableBy, entryOf, storedAt}
+use Rattle.table.specs.declared.TableNumbers.{TableNumbers}
+use Rattle.table.proofs.Any.{invalid-absent}
+use Rattle.table.proofs.Order.{entries-in-order}
+use Rattle.table.proofs.Shows.{Shows as TableShows, abm-shows, mft-shows}
+use Rattle.text.specs.Answer.{Answer as Text·Answer, span}
+use Rattle.text.specs.Layout.{asciiEnd, unicodeLanguage}
+use Rattle.text.specs.Mluc.{Localized, recordWords as textWords, recordsIn, wordsIn}
+use Rattle.text.specs.Standard.{TextType, TextDescriptionType, MultiLocalizedUnicodeType, unicodeRange}
+use Rattle.text.proofs.Conforms.{text-conforms, desc-conforms, mluc-conforms, mluc-records, Taken, accepted}
+use Rattle.text.proofs.Found.{Value}
+use Rattle.text.proofs.Unique.{unique as text-unique}
+use Rattle.demands.specs.Readers.{Reader, lut, trc, string, chad, sig, date, meas, view, xyz, cicp, Call, Result, Numbers, numbers, meaning, Library, Promised}
+use Rattle.demands.specs.Demands.{tag, curveTag, TagInside, CurveAs, AbmSaid, AbmAs, MftSaid, MlucSaid, MlucAs, Conforms, ofTag, Shows, Demand2}
+
+-- ---- one call, one answer: a result is determined by its numbers
+
+pub unique : (r : Reader) (a : Numbers r) (x y : Result r) → numbers r x ≡ a → numbers r y ≡ a → x ≡ y
+unique (lut walk) = lut-unique
+unique (trc walk) = curve-unique
+unique string = text-unique
+unique chad = chad-unique
+unique sig = sig-unique
+unique date = date-unique
+unique meas = meas-unique
+unique view = view-unique
+unique xyz = xyz-unique
+unique cicp = cicp-unique
+
+-- a size of 0 or from 12 on is not too short
+long-enough : (size : ℕ) → (size ≡ 0) ⊎ (12 ≤ size) → leb 1 size && ltb size 12 ≡ false
+long-enough size (inl e) = rw e refl
+long-enough size (inr l) = rw (le-ltb size 12 l) (by (leb 1 size))
+  where
+    by : (b : Bool) → b && false ≡ false
+    by true = refl
+    by false = refl
+
+module _ (l : Library) (p : Promised l) where
+  -- what the meaning of lookup tables says, the library returns
+  lut-state : (walk : Walk) (c : Call) → numbers (lut walk) (l .returns (lut walk) c) .state ≡ meaning (lut walk) c .state
+  lut-state walk c = ap (λ (a : Lut·Answer). a .state) (p .answers (lut walk) c)
+
+  -- ---- curves
+
+  curve-accepted : (walk : Walk) (c : Call) (s : Shape) → c .entry + 4 ≤ length (c .profile) → c .entry + c .size ≤ length (c .profile) → (c .size ≡ 0) ⊎ (12 ≤ c .size) → CurveLaid (curveTag c) s → CurveWithin (c .entries) s → numbers (trc walk) (l .returns (trc walk) c) ≡ Curve·Answer.value (wordsOf 12 s) (stepOf walk s)
+  curve-accepted walk c s four whole long laid within =
+      p .answers (trc walk) c ∙ lone-accepted walk (c .entries) (c .profile) (c .entry) (c .size) s four whole (long-enough (c .size) long) laid within
+
+  curve-laid : (walk : Walk) (c : Call) (words : List ℕ) (consumed : ℕ) → numbers (trc walk) (l .returns (trc walk) c) ≡ Curve·Answer.value words consumed → CurveAs walk (c .entries) (curveTag c) words consumed
+  curve-laid walk c words consumed h =
+      let i = accepted-inside walk (c .entries) (c .profile) (c .entry) (c .size) words consumed (sym (p .answers (trc walk) c) ∙ h) in
+      let k = curve-laid-out (c .entries) (curveTag c) (i .curve .shape) (i .curve .seen) in
+      record { shape = i .curve .shape; laid = k .0; within = k .1; words-are = i .curve .record-is; consumed-is = i .curve .step-is }
+
+  -- ---- lookup tables
+
+  abm-accepted : (c : Call) (table : Table) (a m b : List Placed) → TagInside c → AbmLaidOut (tag c) table a m b → AbmAsked (c .entries) (tag c) table a m b → recordsNeeded (tag c) ≤ length (c .slots) / recordWords → AbmSaid l c table (a ++ m ++ b)
+  unfolding valueFrom
+  abm-accepted c table a m b whole laid asked room =
+      let e = lone-conforms (c .entries) (c .points) (c .profile) (c .entry) (c .size) table a m b whole laid asked (length (c .slots)) room in
+      record { answer-is = p .answers (lut Book) c ∙ e; slots-are = p .leaves-so (lut Book) c ∙ rw (e, conforms-curves (c .entries) (tag c) table a m b laid asked) }
+
+  abm-laid : (c : Call) (f : Abm) → numbers (lut Book) (l .returns (lut Book) c) .state ≡ abm f → AbmAs l c
+  unfolding valueFrom curvesOf
+  abm-laid c f h =
+      let k = abm-laid-out (c .entries) (c .points) (c .profile) (c .entry) (c .size) (length (c .slots)) f (sym (lut-state Book c) ∙ h) in
+      record {
+        table = k .table;
+        a = runA Book (c .entries) (tag c) (planOf (tag c)) .curves;
+        m = runM Book (c .entries) (tag c) (planOf (tag c)) .curves;
+        b = runB Book (c .entries) (tag c) (planOf (tag c)) .curves;
+        laid = k .laid-out;
+        asked = k .asked;
+        said = record { answer-is = p .answers (lut Book) c ∙ k .answer-is; slots-are = p .leaves-so (lut Book) c ∙ rw (k .answer-is) };
+      }
+
+  mft-accepted : (walk : Walk) (c : Call) → TagInside c → MftLaidOut (tag c) → MftAsked (c .points) (tag c) → MftSaid l walk c
+  unfolding answerOf
+  mft-accepted walk c whole laid asked =
+      let e = p .answers (lut walk) c ∙ mft-conforms walk (c .entries) (c .points) (c .profile) (c .entry) (c .size) (length (c .slots)) whole laid asked in
+      record { fields-are = ap (λ (a : Lut·Answer). a .state) e; matrix-is = ap (λ (a : Lut·Answer). a .matrix) e }
+
+  mft-laid : (walk : Walk) (c : Call) (f : Fields) → numbers (lut walk) (l .returns (lut walk) c) .state ≡ mft f → MftLaidOut (tag c) × MftAsked (c .points) (tag c) × MftSaid l walk c
+  mft-laid walk c f h =
+      let s : meaning (lut walk) c .state ≡ mft f = sym (lut-state walk c) ∙ h in
+      let k = mft-laid-out walk (c .entries) (c .points) (c .profile) (c .entry) (c .size) (length (c .slots)) f s in
+      let i = mft-in-tag walk (c .entries) (c .points) (c .profile) (c .entry) (c .size) (length (c .slots)) f s in
+      (k .laid, k .asked, mft-accepted walk c (i .0) (k .laid) (k .asked))
+
+  -- ---- text
+
+  text-accepted : (c : Call) (n : ℕ) → TagInside c → TextType (tag c) n → numbers string (l .returns string c) ≡ Text·Answer.text (span 8 n)
+  text-accepted c n whole h = p .answers string c ∙ text-conforms (c .profile) (c .entry) (c .size) whole (length (c .slots)) n h
+
+  desc-accepted : (c : Call) (n m : ℕ) → TagInside c → TextDescriptionType (tag c) n m → let at : ℕ = asciiEnd (tag c) in numbers string (l .returns string c) ≡ Text·Answer.desc (span 12 n) record { language = unicodeLanguage (tag c) at; string = unicodeRange (tag c) at m }
+  desc-accepted c n m whole h = p .answers string c ∙ desc-conforms (c .profile) (c .entry) (c .size) whole (length (c .slots)) n m h
+
+  mluc-accepted : (c : Call) (rs : List Localized) → TagInside c → MultiLocalizedUnicodeType (tag c) rs → length rs ≤ length (c .slots) / textWords → MlucSaid l c rs
+  mluc-accepted c rs whole h room =
+      let e = mluc-conforms (c .profile) (c .entry) (c .size) whole (length (c .slots)) rs h room in
+      record { answer-is = p .answers string c ∙ e; slots-are = p .leaves-so string c ∙ rw (e, mluc-records (tag c) rs h) }
+
+  -- what is accepted is taken
+  string-taken : (c : Call) (a : Text·Answer) → Value a → numbers string (l .returns string c) ≡ a → (meaning string c ≡ a) × Taken (tag c) a
+  string-taken c a v h =
+      let e : meaning string c ≡ a = sym (p .answers string c) ∙ h in
+      let k = accepted (c .profile) (c .entry) (c .size) (length (c .slots)) (subst Value (sym e) v) in
+      (e, subst (Taken (tag c)) e (k .laid))
+
+  mluc-taken : (c : Call) (n : ℕ) → numbers string (l .returns string c) ≡ Text·Answer.mluc n → MlucAs l c
+  mluc-taken c n h =
+      let k = string-taken c (Text·Answer.mluc n) tt h in
+      let count = k .1 .count-is in
+      record {
+        records = recordsIn (tag c) .records;
+        taken = k .1 .taken;
+        said = record { answer-is = h ∙ ap Text·Answer.mluc count; slots-are = p .leaves-so string c ∙ rw (k .0) };
+      }
+
+  -- ---- small readers
+
+  small : (said reader : List ℕ → ℕ → ℕ → Small·Answer) (Layout : List ℕ → List ℕ → Type 0) (Asked AskedBack : List ℕ → ℕ → ℕ → Type 0) → ((q : List ℕ) (entry size : ℕ) → said q entry size ≡ reader q entry size) → Accepts reader Layout Asked → AcceptsOnly reader Layout AskedBack → Conforms said Layout Asked AskedBack
+  small said reader Layout Asked AskedBack e a b =
+      (λ q entry size ws whole asked laid. e q entry size ∙ a q entry size ws whole asked laid, λ q entry size ws asked h. b q entry size ws asked (sym (e q entry size) ∙ h))
+
+  -- ---- the view
+
+  shows : (t : List ℕ) (n : TableNumbers) (table : Table) (bytes : ℕ) → TableShows t n table bytes → Shows l t n table bytes
+  shows t n table bytes h index channel valid =
+      (p .reads-so t n index channel ∙ h .entry-is index channel (valid .0) (valid .1), h .entry-in-table index channel (valid .0) (valid .1))
+
+  abm-shown : (walk : Walk) (c : Call) (f : Abm) → c .size < 2 ^ 32 → let a = numbers (lut walk) (l .returns (lut walk) c) in a .state ≡ abm f → 1 ≤ f .size → Shows l (tag c) (numbersOf (abm f)) (Abm·toldTable (a .grid) f) (f .bytes)
+  abm-shown walk c f low h sized =
+      subst (λ (g : List ℕ). Shows l (tag c) (numbersOf (abm f)) (Abm·toldTable g f) (f .bytes)) (ap (λ (a : Lut·Answer). a .grid) (sym (p .answers (lut walk) c)))
+      (shows _ _ _ _ (abm-shows walk (c .entries) (c .points) (c .profile) (c .entry) (c .size) (length (c .slots)) low f (sym (lut-state walk c) ∙ h) sized))
+
+  mft-shown : (walk : Walk) (c : Call) (f : Fields) → c .size < 2 ^ 32 → numbers (lut walk) (l .returns (lut walk) c) .state ≡ mft f → Shows l (tag c) (numbersOf (mft f)) (Mft·toldTable f) (f .clutBytes)
+  mft-shown walk c f low h =
+      shows _ _ _ _ (mft-shows walk (c .entries) (c .points) (c .profile) (c .entry) (c .size) (length (c .slots)) low f (sym (lut-state walk c) ∙ h))
+
+  pub demand2 : Demand2 l
+  demand2 =
+      record {
+        promised = p;
+        once = λ r c x h. unique r (meaning r c) x (l .returns r c) h (p .answers r c);
+        curve-accepted = curve-accepted;
+        curve-laid = curve-laid;
+        abm-accepted = abm-accepted;
+        abm-laid = abm-laid;
+        mft-accepted = mft-accepted;
+        mft-laid = mft-laid;
+        text-accepted = text-accepted;
+        text-taken = λ c s h. string-taken c _ tt h .1;
+        desc-accepted = desc-accepted;
+        desc-taken = λ c s u h. string-taken c _ tt h .1;
+        mluc-accepted = mluc-accepted;
+        mluc-taken = mluc-taken;
+        chad-conforms = λ c. small _ chadOf LaidNine Always Always (λ q entry size. p .answers chad (ofTag c q entry size)) chad-accepts chad-laid;
+        sig-conforms = λ c. small _ sigOf (Laid Sig 12 signatureIn) Always Always (λ q entry size. p .answers sig (ofTag c q entry size)) sig-accepts sig-laid;
+        date-conforms = λ c. small _ dateOf (Laid Dtim 20 dateBytes) SameDate SameDate (λ q entry size. p .answers date (ofTag c q entry size)) date-accepts date-laid;
+        meas-conforms = λ c. small _ measOf (Laid Meas 36 measurement) Always Whole36 (λ q entry size. p .answers meas (ofTag c q entry size)) meas-accepts meas-laid;
+        view-conforms = λ c. small _ viewOf (Laid View 36 conditions) Always InProfile (λ q entry size. p .answers view (ofTag c q entry size)) view-accepts view-laid;
+        xyz-conforms = λ c. small _ xyzOf (Laid Xyz 20 firstXyz) Always Always (λ q entry size. p .answers xyz (ofTag c q entry size)) xyz-accepts xyz-laid;
+        cicp-conforms = λ c. small _ cicpOf (Laid Cicp 12 codePoints) Always Always (λ q entry size. p .answers cicp (ofTag c q entry size)) cicp-accepts cicp-laid;
+        abm-shown = abm-shown;
+        mft-shown = mft-shown;
+        not-shown = λ t n index channel h. p .reads-so t n index channel ∙ invalid-absent t (tableBy t n) index channel h;
+        in-order = λ table xs ys x y v w b. entries-in-order table xs ys (v .0) (w .0) b x y (v .1);
+      }
