@@ -19,7 +19,7 @@ use Rattle.small.specs.declared.view.ViewAnswer.{ViewAnswer}
 use Rattle.small.specs.declared.xyz.XyzAnswer.{XyzAnswer}
 use Rattle.text.specs.Answer.{Answer as Text·Answer, leftBy as Text·leftBy}
 use Rattle.text.specs.declared.TextAnswer.{TextAnswer}
-use Rattle.demands.specs.Readers.{Reader, lut, trc, string, chad, sig, date, meas, view, xyz, cicp, Call, Result, Numbers, numbers, meaning, left, Outcome, value, default, absent, refused, outcome, lutOutcome, textOutcome, Library, ends, Promised}
+use Rattle.demands.specs.Readers.{Small, chad, sig, date, meas, view, xyz, cicp, Reader, lut, trc, string, small, Call, SmallResult, smallNumbers, Result, numbers, meaning, left, Outcome, value, default, absent, refused, outcome, lutOutcome, smallOutcome, textOutcome, Library, ends, Promised}
 
 -- ---- numbers of refusals
 
@@ -50,6 +50,29 @@ Numbered default = Unit
 Numbered absent = Unit
 Numbered (refused n) = (1 ≤ n) × (n ≤ 18)
 
+small-numbered : (s : Small) (x : SmallResult s) → Numbered (smallOutcome (smallNumbers s x))
+small-numbered chad (ChadAnswer.Value m) = tt
+small-numbered chad ChadAnswer.Absent = tt
+small-numbered chad (ChadAnswer.Refused why) = numbered-so why
+small-numbered sig (SigAnswer.Value s) = tt
+small-numbered sig SigAnswer.Absent = tt
+small-numbered sig (SigAnswer.Refused why) = numbered-so why
+small-numbered date (DateAnswer.Value d) = tt
+small-numbered date DateAnswer.Absent = tt
+small-numbered date (DateAnswer.Refused why) = numbered-so why
+small-numbered meas (MeasAnswer.Value m) = tt
+small-numbered meas MeasAnswer.Absent = tt
+small-numbered meas (MeasAnswer.Refused why) = numbered-so why
+small-numbered view (ViewAnswer.Value v) = tt
+small-numbered view ViewAnswer.Absent = tt
+small-numbered view (ViewAnswer.Refused why) = numbered-so why
+small-numbered xyz (XyzAnswer.Value n) = tt
+small-numbered xyz XyzAnswer.Default = tt
+small-numbered xyz (XyzAnswer.Refused why) = numbered-so why
+small-numbered cicp (CicpAnswer.Value n) = tt
+small-numbered cicp CicpAnswer.Absent = tt
+small-numbered cicp (CicpAnswer.Refused why) = numbered-so why
+
 result-numbered : (r : Reader) (x : Result r) → Numbered (outcome r (numbers r x))
 result-numbered (lut walk) x = by (x .answer)
   where
@@ -66,27 +89,7 @@ result-numbered string (TextAnswer.Desc d) = tt
 result-numbered string (TextAnswer.Mluc n) = tt
 result-numbered string TextAnswer.Absent = tt
 result-numbered string (TextAnswer.Refused why) = numbered-so why
-result-numbered chad (ChadAnswer.Value m) = tt
-result-numbered chad ChadAnswer.Absent = tt
-result-numbered chad (ChadAnswer.Refused why) = numbered-so why
-result-numbered sig (SigAnswer.Value s) = tt
-result-numbered sig SigAnswer.Absent = tt
-result-numbered sig (SigAnswer.Refused why) = numbered-so why
-result-numbered date (DateAnswer.Value d) = tt
-result-numbered date DateAnswer.Absent = tt
-result-numbered date (DateAnswer.Refused why) = numbered-so why
-result-numbered meas (MeasAnswer.Value m) = tt
-result-numbered meas MeasAnswer.Absent = tt
-result-numbered meas (MeasAnswer.Refused why) = numbered-so why
-result-numbered view (ViewAnswer.Value v) = tt
-result-numbered view ViewAnswer.Absent = tt
-result-numbered view (ViewAnswer.Refused why) = numbered-so why
-result-numbered xyz (XyzAnswer.Value n) = tt
-result-numbered xyz XyzAnswer.Default = tt
-result-numbered xyz (XyzAnswer.Refused why) = numbered-so why
-result-numbered cicp (CicpAnswer.Value n) = tt
-result-numbered cicp CicpAnswer.Absent = tt
-result-numbered cicp (CicpAnswer.Refused why) = numbered-so why
+result-numbered (small s) x = small-numbered s x
 
 pub numbered : (l : Library) (r : Reader) (c : Call) (n : ℕ) → ends l r c ≡ refused n → (1 ≤ n) × (n ≤ 18)
 numbered l r c n e = subst Numbered e (result-numbered r (l .returns r c))
@@ -117,13 +120,7 @@ left-spared string c = by (meaning string c) _
     by Text·Answer.absent words h = refl
     by (Text·Answer.refused n) words h = refl
 left-spared (trc walk) c = λ h. refl
-left-spared chad c = λ h. refl
-left-spared sig c = λ h. refl
-left-spared date c = λ h. refl
-left-spared meas c = λ h. refl
-left-spared view c = λ h. refl
-left-spared xyz c = λ h. refl
-left-spared cicp c = λ h. refl
+left-spared (small s) c = λ h. refl
 
 -- ---- of a library that keeps the contracts
 

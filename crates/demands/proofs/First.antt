@@ -22,7 +22,7 @@ use Rattle.text.proofs.Found.{Value}
 use Rattle.text.proofs.Inside.{ValueInside, value-inside}
 use Rattle.small.specs.Answer.{Answer as Small·Answer}
 use Rattle.small.proofs.Inside.{chad-inside, sig-inside, view-inside, xyz-inside, cicp-inside, meas-inside, date-inside}
-use Rattle.demands.specs.Readers.{Reader, lut, trc, string, chad, sig, date, meas, view, xyz, cicp, Call, numbers, meaning, left, Outcome, value, default, absent, refused, smallOutcome, Library, ends, Promised}
+use Rattle.demands.specs.Readers.{Small, chad, sig, date, meas, view, xyz, cicp, lut, trc, string, small, Call, numbers, smallOf, meaning, value, smallOutcome, Library, ends, Promised}
 use Rattle.demands.specs.Demands.{tag, curveTag, IndexInside, AbmInside, MftInside, TextInside, FieldsInside, Demand1}
 use Rattle.demands.proofs.Ends.{Spares, numbered, ends-so, leaves-spared}
 
@@ -39,6 +39,15 @@ with-value Small·Answer.default f e = let z : _≡_ {A = ℕ} 0 1 = cc in absur
 with-value Small·Answer.absent f e = let z : _≡_ {A = ℕ} 0 1 = cc in absurd (omega arith)
 with-value (Small·Answer.refused n) f e = let z : _≡_ {A = ℕ} 0 1 = cc in absurd (omega arith)
 
+small-inside : (s : Small) (c : Call) (ns : List ℕ) → smallOf s (c .profile) (c .entry) (c .size) ≡ Small·Answer.value ns → FieldsInside s c
+small-inside chad c ns e = let i = chad-inside (c .profile) (c .entry) (c .size) ns e in (i .in-tag, i .in-profile)
+small-inside sig c ns e = let i = sig-inside (c .profile) (c .entry) (c .size) ns e in (i .in-tag, i .in-profile)
+small-inside date c ns e = date-inside (c .profile) (c .entry) (c .size) ns e
+small-inside meas c ns e = meas-inside (c .profile) (c .entry) (c .size) ns e
+small-inside view c ns e = let i = view-inside (c .profile) (c .entry) (c .size) ns e in (i .in-tag, i .in-profile)
+small-inside xyz c ns e = let i = xyz-inside (c .profile) (c .entry) (c .size) ns e in (i .in-tag, i .in-profile)
+small-inside cicp c ns e = let i = cicp-inside (c .profile) (c .entry) (c .size) ns e in (i .in-tag, i .in-profile)
+
 module _ (l : Library) (p : Promised l) where
   abm-inside : (walk : Walk) (c : Call) (f : Abm) → let a = numbers (lut walk) (l .returns (lut walk) c) in a .state ≡ abm f → AbmInside c (l .leaves (lut walk) c) (a .grid) f
   abm-inside walk c f h =
@@ -51,7 +60,7 @@ module _ (l : Library) (p : Promised l) where
         matrix-in-tag = i .matrix-in-tag;
         table-in-tag = i .table-in-tag;
         index-in-table = λ sized. subst (λ (g : List ℕ). IndexInside (Abm·toldTable g f) (f .bytes)) (ap (λ (a : Lut·Answer). a .grid) (sym e))
-        (λ index channel valid. i .entry-in-table sized index channel (valid .0) (valid .1));
+            (λ index channel valid. i .entry-in-table sized index channel (valid .0) (valid .1));
       }
 
   mft-inside : (walk : Walk) (c : Call) (f : Fields) → numbers (lut walk) (l .returns (lut walk) c) .state ≡ mft f → MftInside c f
@@ -82,17 +91,8 @@ module _ (l : Library) (p : Promised l) where
       by Text·Answer.absent h = tt
       by (Text·Answer.refused n) h = tt
 
-  fields-inside : (r : Reader) (c : Call) → ends l r c ≡ value → FieldsInside r c
-  fields-inside (lut walk) c h = tt
-  fields-inside (trc walk) c h = tt
-  fields-inside string c h = tt
-  fields-inside chad c h = with-value (meaning chad c) (λ ns e. let i = chad-inside (c .profile) (c .entry) (c .size) ns e in (i .in-tag, i .in-profile)) (sym (ends-so l p chad c) ∙ h)
-  fields-inside sig c h = with-value (meaning sig c) (λ ns e. let i = sig-inside (c .profile) (c .entry) (c .size) ns e in (i .in-tag, i .in-profile)) (sym (ends-so l p sig c) ∙ h)
-  fields-inside date c h = with-value (meaning date c) (date-inside (c .profile) (c .entry) (c .size)) (sym (ends-so l p date c) ∙ h)
-  fields-inside meas c h = with-value (meaning meas c) (meas-inside (c .profile) (c .entry) (c .size)) (sym (ends-so l p meas c) ∙ h)
-  fields-inside view c h = with-value (meaning view c) (λ ns e. let i = view-inside (c .profile) (c .entry) (c .size) ns e in (i .in-tag, i .in-profile)) (sym (ends-so l p view c) ∙ h)
-  fields-inside xyz c h = with-value (meaning xyz c) (λ ns e. let i = xyz-inside (c .profile) (c .entry) (c .size) ns e in (i .in-tag, i .in-profile)) (sym (ends-so l p xyz c) ∙ h)
-  fields-inside cicp c h = with-value (meaning cicp c) (λ ns e. let i = cicp-inside (c .profile) (c .entry) (c .size) ns e in (i .in-tag, i .in-profile)) (sym (ends-so l p cicp c) ∙ h)
+  fields-inside : (s : Small) (c : Call) → ends l (small s) c ≡ value → FieldsInside s c
+  fields-inside s c h = with-value (smallOf s (c .profile) (c .entry) (c .size)) (small-inside s c) (sym (ends-so l p (small s) c) ∙ h)
 
   pub demand1 : Demand1 l
   demand1 =

@@ -9,7 +9,6 @@ use mathlib.Core.Logic.{_⊎_, inl, inr}
 use lib.Dec.{leb, ltb}
 use lib.ListN.{length, drop}
 use borrow.Author.Tests.{le-ltb}
-use Rattle.fields.specs.declared.Kind.the-variants.{Sig, Dtim, Meas, View, Xyz, Cicp}
 use Rattle.clut.specs.Table.{Table, inGrid, numberOf, lengthOf}
 use Rattle.curve.specs.Answer.{Answer as Curve·Answer}
 use Rattle.curve.specs.Shape.{Shape, wordsOf, stepOf}
@@ -31,9 +30,7 @@ use Rattle.lut.proofs.Conforms.{lone-conforms, conforms-curves, laid as abm-lai
 use Rattle.lut.proofs.Inside.{mft-inside as mft-in-tag}
 use Rattle.lut.proofs.Unique.{unique as lut-unique}
 use Rattle.small.specs.Answer.{Answer as Small·Answer}
-use Rattle.small.specs.Layout.{signatureIn, dateBytes, measurement, conditions, firstXyz, codePoints}
-use Rattle.small.specs.Small.{chadOf, sigOf, dateOf, measOf, viewOf, xyzOf, cicpOf}
-use Rattle.small.specs.Standard.{Laid, LaidNine, Always, InProfile, Whole36, SameDate, Accepts, AcceptsOnly}
+use Rattle.small.specs.Standard.{Accepts, AcceptsOnly}
 use Rattle.small.proofs.Conforms.{chad-accepts, chad-laid, sig-accepts, sig-laid, date-accepts, date-laid, meas-accepts, meas-laid, view-accepts, view-laid, xyz-accepts, xyz-laid, cicp-accepts, cicp-laid}
 use Rattle.small.proofs.Unique.{chad-unique, sig-unique, date-unique, meas-unique, view-unique, xyz-unique, cicp-unique}
 use Rattle.table.specs.Answer.{Told}
@@ -50,22 +47,47 @@ use Rattle.text.specs.Standard.{TextType, TextDescriptionType, MultiLocalizedUn
 use Rattle.text.proofs.Conforms.{text-conforms, desc-conforms, mluc-conforms, mluc-records, Taken, accepted}
 use Rattle.text.proofs.Found.{Value}
 use Rattle.text.proofs.Unique.{unique as text-unique}
-use Rattle.demands.specs.Readers.{Reader, lut, trc, string, chad, sig, date, meas, view, xyz, cicp, Call, Result, Numbers, numbers, meaning, Library, Promised}
-use Rattle.demands.specs.Demands.{tag, curveTag, TagInside, CurveAs, AbmSaid, AbmAs, MftSaid, MlucSaid, MlucAs, Conforms, ofTag, Shows, Demand2}
+use Rattle.demands.specs.Readers.{Small, chad, sig, date, meas, view, xyz, cicp, Reader, lut, trc, string, small, Call, SmallResult, smallNumbers, smallOf, Result, Numbers, numbers, meaning, Library, Promised}
+use Rattle.demands.specs.Demands.{tag, curveTag, TagInside, CurveAs, AbmSaid, AbmAs, MftSaid, MlucSaid, MlucAs, Layout, Asked, AskedBack, ofTag, Shows, Demand2}
 
 -- ---- one call, one answer: a result is determined by its numbers
+
+small-unique : (s : Small) (a : Small·Answer) (x y : SmallResult s) → smallNumbers s x ≡ a → smallNumbers s y ≡ a → x ≡ y
+small-unique chad = chad-unique
+small-unique sig = sig-unique
+small-unique date = date-unique
+small-unique meas = meas-unique
+small-unique view = view-unique
+small-unique xyz = xyz-unique
+small-unique cicp = cicp-unique
 
 pub unique : (r : Reader) (a : Numbers r) (x y : Result r) → numbers r x ≡ a → numbers r y ≡ a → x ≡ y
 unique (lut walk) = lut-unique
 unique (trc walk) = curve-unique
 unique string = text-unique
-unique chad = chad-unique
-unique sig = sig-unique
-unique date = date-unique
-unique meas = meas-unique
-unique view = view-unique
-unique xyz = xyz-unique
-unique cicp = cicp-unique
+unique (small s) = small-unique s
+
+-- ---- the small readers
+
+accepts : (s : Small) → Accepts (smallOf s) (Layout s) (Asked s)
+accepts chad = chad-accepts
+accepts sig = sig-accepts
+accepts date = date-accepts
+accepts meas = meas-accepts
+accepts view = view-accepts
+accepts xyz = xyz-accepts
+accepts cicp = cicp-accepts
+
+accepts-only : (s : Small) → AcceptsOnly (smallOf s) (Layout s) (AskedBack s)
+accepts-only chad = chad-laid
+accepts-only sig = sig-laid
+accepts-only date = date-laid
+accepts-only meas = meas-laid
+accepts-only view = view-laid
+accepts-only xyz = xyz-laid
+accepts-only cicp = cicp-laid
+
+-- ---- the lone curve
 
 -- a size of 0 or from 12 on is not too short
 long-enough : (size : ℕ) → (size ≡ 0) ⊎ (12 ≤ size) → leb 1 size && ltb size 12 ≡ false
@@ -158,12 +180,6 @@ module _ (l : Library) (p : Promised l) where
         said = record { answer-is = h ∙ ap Text·Answer.mluc count; slots-are = p .leaves-so string c ∙ rw (k .0) };
       }
 
-  -- ---- small readers
-
-  small : (said reader : List ℕ → ℕ → ℕ → Small·Answer) (Layout : List ℕ → List ℕ → Type 0) (Asked AskedBack : List ℕ → ℕ → ℕ → Type 0) → ((q : List ℕ) (entry size : ℕ) → said q entry size ≡ reader q entry size) → Accepts reader Layout Asked → AcceptsOnly reader Layout AskedBack → Conforms said Layout Asked AskedBack
-  small said reader Layout Asked AskedBack e a b =
-      (λ q entry size ws whole asked laid. e q entry size ∙ a q entry size ws whole asked laid, λ q entry size ws asked h. b q entry size ws asked (sym (e q entry size) ∙ h))
-
   -- ---- the view
 
   shows : (t : List ℕ) (n : TableNumbers) (table : Table) (bytes : ℕ) → TableShows t n table bytes → Shows l t n table bytes
@@ -196,13 +212,8 @@ module _ (l : Library) (p : Promised l) where
         desc-taken = λ c s u h. string-taken c _ tt h .1;
         mluc-accepted = mluc-accepted;
         mluc-taken = mluc-taken;
-        chad-conforms = λ c. small _ chadOf LaidNine Always Always (λ q entry size. p .answers chad (ofTag c q entry size)) chad-accepts chad-laid;
-        sig-conforms = λ c. small _ sigOf (Laid Sig 12 signatureIn) Always Always (λ q entry size. p .answers sig (ofTag c q entry size)) sig-accepts sig-laid;
-        date-conforms = λ c. small _ dateOf (Laid Dtim 20 dateBytes) SameDate SameDate (λ q entry size. p .answers date (ofTag c q entry size)) date-accepts date-laid;
-        meas-conforms = λ c. small _ measOf (Laid Meas 36 measurement) Always Whole36 (λ q entry size. p .answers meas (ofTag c q entry size)) meas-accepts meas-laid;
-        view-conforms = λ c. small _ viewOf (Laid View 36 conditions) Always InProfile (λ q entry size. p .answers view (ofTag c q entry size)) view-accepts view-laid;
-        xyz-conforms = λ c. small _ xyzOf (Laid Xyz 20 firstXyz) Always Always (λ q entry size. p .answers xyz (ofTag c q entry size)) xyz-accepts xyz-laid;
-        cicp-conforms = λ c. small _ cicpOf (Laid Cicp 12 codePoints) Always Always (λ q entry size. p .answers cicp (ofTag c q entry size)) cicp-accepts cicp-laid;
+        small-accepted = λ s c q entry size ws whole asked laid. p .answers (small s) (ofTag c q entry size) ∙ accepts s q entry size ws whole asked laid;
+        small-laid = λ s c q entry size ws asked h. accepts-only s q entry size ws asked (sym (p .answers (small s) (ofTag c q entry size)) ∙ h);
         abm-shown = abm-shown;
         mft-shown = mft-shown;
         not-shown = λ t n index channel h. p .reads-so t n index channel ∙ invalid-absent t (tableBy t n) index channel h;

@@ -2,7 +2,7 @@
 -- (`Promised`), and breaks them with wrong ones.
 use Prim.Native.Nat.{ℕ, _+_, _*_, _/_, _^_, _≤_, _<_}
 use mathlib.Core.Path.{_≡_}
-use mathlib.Core.Bool.{true, false, _&&_}
+use mathlib.Core.Bool.{Bool, true, false, cond, _&&_}
 use mathlib.Core.List.{List, [], _++_}
 use mathlib.Core.Logic.{_⊎_}
 use lib.Dec.{ltb}
@@ -28,14 +28,13 @@ use Rattle.text.specs.Answer.{Answer as Text·Answer, Span, span, Unicode}
 use Rattle.text.specs.Layout.{textStart, asciiStart, asciiEnd, unicodeLanguage}
 use Rattle.text.specs.Mluc.{Localized, recordWords as textWords, wordsIn}
 use Rattle.text.specs.Standard.{TextType, TextDescriptionType, MultiLocalizedUnicodeType, TextTaken, DescriptionTaken, RecordsTaken, unicodeRange}
-use Rattle.small.specs.Answer.{Answer as Small·Answer}
 use Rattle.small.specs.Layout.{signatureIn, dateBytes, measurement, conditions, firstXyz, codePoints}
 use Rattle.small.specs.Standard.{Laid, LaidNine, Always, InProfile, Whole36, SameDate, Accepts, AcceptsOnly}
 use Rattle.table.specs.Answer.{Told, paper as Table·paper}
 use Rattle.table.specs.Order.{Before}
 use Rattle.table.specs.View.{numbersOf, tableBy, storedAt}
 use Rattle.table.specs.declared.TableNumbers.{TableNumbers}
-use Rattle.demands.specs.Readers.{Reader, lut, trc, string, chad, sig, date, meas, view, xyz, cicp, Call, Result, numbers, meaning, Outcome, value, default, absent, refused, Library, ends, Promised}
+use Rattle.demands.specs.Readers.{Small, chad, sig, date, meas, view, xyz, cicp, Reader, lut, trc, string, small, Call, Result, numbers, meaning, Outcome, value, default, absent, refused, Library, ends, Promised}
 
 -- the bytes of the tag, in lookup tables and text, and of a lone curve
 abbrev pub tag : Call → List ℕ
@@ -90,17 +89,14 @@ TextInside c slots Text·Answer.absent = Unit
 TextInside c slots (Text·Answer.refused n) = Unit
 
 -- the fields of a small reader end here in the tag, and so in the profile; `meas` and the date look into the profile
-abbrev pub FieldsInside : Reader → Call → Type 0
+abbrev pub FieldsInside : Small → Call → Type 0
 FieldsInside chad c = (44 ≤ c .size) × (c .entry + 44 ≤ length (c .profile))
 FieldsInside sig c = (12 ≤ c .size) × (c .entry + 12 ≤ length (c .profile))
+FieldsInside date c = 20 ≤ length (c .profile)
+FieldsInside meas c = c .entry + 36 ≤ length (c .profile)
 FieldsInside view c = (36 ≤ c .size) × (c .entry + 36 ≤ length (c .profile))
 FieldsInside xyz c = (20 ≤ c .size) × (c .entry + 20 ≤ length (c .profile))
 FieldsInside cicp c = (12 ≤ c .size) × (c .entry + 12 ≤ length (c .profile))
-FieldsInside meas c = c .entry + 36 ≤ length (c .profile)
-FieldsInside date c = 20 ≤ length (c .profile)
-FieldsInside (lut walk) c = Unit
-FieldsInside (trc walk) c = Unit
-FieldsInside string c = Unit
 
 -- every call ends with a value, a default, an absence or a numbered refusal. That it ends, and stays inside its slices, is each function's
 -- own proof, in proofs/F/Proof.antt of its crate
@@ -115,7 +111,7 @@ pub record Demand1 (l : Library) : Type 0 where
   -- and what the other readers accept
   pub curve-inside : (walk : Walk) (c : Call) (words : List ℕ) (consumed : ℕ) → numbers (trc walk) (l .returns (trc walk) c) ≡ Curve·Answer.value words consumed → (dataEnd words ≤ length (curveTag c)) × (c .entry + c .size ≤ length (c .profile))
   pub text-inside : (c : Call) → TextInside c (l .leaves string c) (numbers string (l .returns string c))
-  pub fields-inside : (r : Reader) (c : Call) → ends l r c ≡ value → FieldsInside r c
+  pub fields-inside : (s : Small) (c : Call) → ends l (small s) c ≡ value → FieldsInside s c
 
 -- ---- demand 2, its proved half
 
@@ -156,9 +152,35 @@ pub record MlucAs (l : Library) (c : Call) : Type 0 where
   pub taken : RecordsTaken (tag c) records
   pub said : MlucSaid l c records
 
--- a small reader accepts exactly what is laid out so, each way where more is asked besides
-abbrev pub Conforms : (List ℕ → ℕ → ℕ → Small·Answer) → (List ℕ → List ℕ → Type 0) → (List ℕ → ℕ → ℕ → Type 0) → (List ℕ → ℕ → ℕ → Type 0) → Type 0
-Conforms reader Layout Asked AskedBack = Accepts reader Layout Asked × AcceptsOnly reader Layout AskedBack
+-- the types of the small readers: s15Fixed16ArrayType of nine numbers, signatureType, dateTimeType, measurementType, viewingConditionsType,
+-- XYZType, cicpType
+abbrev pub Layout : Small → List ℕ → List ℕ → Type 0
+Layout chad = LaidNine
+Layout sig = Laid Sig 12 signatureIn
+Layout date = Laid Dtim 20 dateBytes
+Layout meas = Laid Meas 36 measurement
+Layout view = Laid View 36 conditions
+Layout xyz = Laid Xyz 20 firstXyz
+Layout cicp = Laid Cicp 12 codePoints
+
+-- what is asked besides, for a tag that is laid out so to be accepted, and for one that is accepted to be laid out so
+abbrev pub Asked : Small → List ℕ → ℕ → ℕ → Type 0
+Asked chad = Always
+Asked sig = Always
+Asked date = SameDate
+Asked meas = Always
+Asked view = Always
+Asked xyz = Always
+Asked cicp = Always
+
+abbrev pub AskedBack : Small → List ℕ → ℕ → ℕ → Type 0
+AskedBack chad = Always
+AskedBack sig = Always
+AskedBack date = SameDate
+AskedBack meas = Whole36
+AskedBack view = InProfile
+AskedBack xyz = Always
+AskedBack cicp = Always
 
 -- a call of the same limits and slots, with another tag
 abbrev pub ofTag : Call → List ℕ → ℕ → ℕ → Call
@@ -194,14 +216,9 @@ pub record Demand2 (l : Library) : Type 0 where
   pub desc-taken : (c : Call) (s : Span) (u : Unicode) → numbers string (l .returns string c) ≡ Text·Answer.desc s u → DescriptionTaken (tag c) s u
   pub mluc-accepted : (c : Call) (rs : List Localized) → TagInside c → MultiLocalizedUnicodeType (tag c) rs → length rs ≤ length (c .slots) / textWords → MlucSaid l c rs
   pub mluc-taken : (c : Call) (n : ℕ) → numbers string (l .returns string c) ≡ Text·Answer.mluc n → MlucAs l c
-  -- s15Fixed16ArrayType of nine numbers, signatureType, dateTimeType, measurementType, viewingConditionsType, XYZType, cicpType
-  pub chad-conforms : (c : Call) → Conforms (λ p entry size. numbers chad (l .returns chad (ofTag c p entry size))) LaidNine Always Always
-  pub sig-conforms : (c : Call) → Conforms (λ p entry size. numbers sig (l .returns sig (ofTag c p entry size))) (Laid Sig 12 signatureIn) Always Always
-  pub date-conforms : (c : Call) → Conforms (λ p entry size. numbers date (l .returns date (ofTag c p entry size))) (Laid Dtim 20 dateBytes) SameDate SameDate
-  pub meas-conforms : (c : Call) → Conforms (λ p entry size. numbers meas (l .returns meas (ofTag c p entry size))) (Laid Meas 36 measurement) Always Whole36
-  pub view-conforms : (c : Call) → Conforms (λ p entry size. numbers view (l .returns view (ofTag c p entry size))) (Laid View 36 conditions) Always InProfile
-  pub xyz-conforms : (c : Call) → Conforms (λ p entry size. numbers xyz (l .returns xyz (ofTag c p entry size))) (Laid Xyz 20 firstXyz) Always Always
-  pub cicp-conforms : (c : Call) → Conforms (λ p entry size. numbers cicp (l .returns cicp (ofTag c p entry size))) (Laid Cicp 12 codePoints) Always Always
+  -- the types of the small readers
+  pub small-accepted : (s : Small) (c : Call) → Accepts (λ p entry size. numbers (small s) (l .returns (small s) (ofTag c p entry size))) (Layout s) (Asked s)
+  pub small-laid : (s : Small) (c : Call) → AcceptsOnly (λ p entry size. numbers (small s) (l .returns (small s) (ofTag c p entry size))) (Layout s) (AskedBack s)
   -- the view of an accepted lookup table; offsets and sizes are 32-bit values
   pub abm-shown : (walk : Walk) (c : Call) (f : Abm) → c .size < 2 ^ 32 → let a = numbers (lut walk) (l .returns (lut walk) c) in a .state ≡ abm f → 1 ≤ f .size → Shows l (tag c) (numbersOf (abm f)) (Abm·toldTable (a .grid) f) (f .bytes)
   pub mft-shown : (walk : Walk) (c : Call) (f : Fields) → c .size < 2 ^ 32 → numbers (lut walk) (l .returns (lut walk) c) .state ≡ mft f → Shows l (tag c) (numbersOf (mft f)) (Mft·toldTable f) (f .clutBytes)
@@ -229,50 +246,35 @@ pub record Same (l : Library) (r : Reader) (c d : Call) (x : List ℕ) : Type 0 
   pub result : l .returns r d ≡ l .returns r c
   pub slots : l .leaves r d ≡ l .leaves r c ++ x
 
--- the refusal that bytes behind the profile may change
+-- the tone-curve reader calls what lies past the profile 11, every other reader 1
+abbrev pub isTrc : Reader → Bool
+isTrc (lut walk) = false
+isTrc (trc walk) = true
+isTrc string = false
+isTrc (small s) = false
+
 abbrev pub pastProfile : Reader → ℕ
-pastProfile (trc walk) = 11
-pastProfile (lut walk) = 1
-pastProfile string = 1
-pastProfile chad = 1
-pastProfile sig = 1
-pastProfile date = 1
-pastProfile meas = 1
-pastProfile view = 1
-pastProfile xyz = 1
-pastProfile cicp = 1
+pastProfile r = cond (isTrc r) 11 1
 
--- the tone curve is absent for want of four bytes
-abbrev pub WantsFour : Library → Reader → Call → Type 0
-WantsFour l (trc walk) c = (ends l (trc walk) c ≡ absent) × (length (c .profile) < c .entry + 4)
-WantsFour l (lut walk) c = ⊥
-WantsFour l string c = ⊥
-WantsFour l chad c = ⊥
-WantsFour l sig c = ⊥
-WantsFour l date c = ⊥
-WantsFour l meas c = ⊥
-WantsFour l view c = ⊥
-WantsFour l xyz c = ⊥
-WantsFour l cicp c = ⊥
+-- what may change with more bytes, by how the call ended: that refusal, and the tone curve's absence for want of four bytes
+abbrev pub ByBytes : Reader → Call → Outcome → Type 0
+ByBytes r c o = (o ≡ refused (pastProfile r)) ⊎ ((isTrc r ≡ true) × (o ≡ absent) × (length (c .profile) < c .entry + 4))
 
--- what may change with more bytes, with higher limits, with more slots
-abbrev pub ByBytes : Library → Reader → Call → Type 0
-ByBytes l r c = (ends l r c ≡ refused (pastProfile r)) ⊎ WantsFour l r c
+-- with higher limits, and with more slots
+abbrev pub ByLimits : Outcome → Type 0
+ByLimits o = (o ≡ refused 10) ⊎ (o ≡ refused 16)
 
-abbrev pub ByLimits : Library → Reader → Call → Type 0
-ByLimits l r c = (ends l r c ≡ refused 10) ⊎ (ends l r c ≡ refused 16)
-
-abbrev pub BySlots : Library → Reader → Call → Type 0
-BySlots l r c = ends l r c ≡ refused 14
+abbrev pub BySlots : Outcome → Type 0
+BySlots o = o ≡ refused 14
 
 -- giving more never spoils a good answer
 pub record Demand3 (l : Library) : Type 0 where
   -- alone
-  pub bytes : (r : Reader) (c : Call) (q : List ℕ) → ByBytes l r c ⊎ Same l r c (appended q c) []
-  pub limits : (r : Reader) (c : Call) (entries points : ℕ) → c .entries ≤ entries → c .points ≤ points → ByLimits l r c ⊎ Same l r c (raised entries points c) []
-  pub slots : (r : Reader) (c : Call) (x : List ℕ) → BySlots l r c ⊎ Same l r c (lent x c) x
+  pub bytes : (r : Reader) (c : Call) (q : List ℕ) → ByBytes r c (ends l r c) ⊎ Same l r c (appended q c) []
+  pub limits : (r : Reader) (c : Call) (entries points : ℕ) → c .entries ≤ entries → c .points ≤ points → ByLimits (ends l r c) ⊎ Same l r c (raised entries points c) []
+  pub slots : (r : Reader) (c : Call) (x : List ℕ) → BySlots (ends l r c) ⊎ Same l r c (lent x c) x
   -- together
-  pub all : (r : Reader) (c : Call) (q : List ℕ) (entries points : ℕ) (x : List ℕ) → c .entries ≤ entries → c .points ≤ points → (ByBytes l r c ⊎ ByLimits l r c ⊎ BySlots l r c) ⊎ Same l r c (lent x (raised entries points (appended q c))) x
+  pub all : (r : Reader) (c : Call) (q : List ℕ) (entries points : ℕ) (x : List ℕ) → c .entries ≤ entries → c .points ≤ points → (ByBytes r c (ends l r c) ⊎ ByLimits (ends l r c) ⊎ BySlots (ends l r c)) ⊎ Same l r c (lent x (raised entries points (appended q c))) x
   -- so a value stays, and a default
   pub value-stays : (r : Reader) (c : Call) (q : List ℕ) (entries points : ℕ) (x : List ℕ) → c .entries ≤ entries → c .points ≤ points → ends l r c ≡ value → Same l r c (lent x (raised entries points (appended q c))) x
   pub default-stays : (r : Reader) (c : Call) (q : List ℕ) (entries points : ℕ) (x : List ℕ) → c .entries ≤ entries → c .points ≤ points → ends l r c ≡ default → Same l r c (lent x (raised entries points (appended q c))) x

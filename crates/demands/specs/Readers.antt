@@ -4,7 +4,7 @@ use mathlib.Core.Path.{_≡_}
 use mathlib.Core.List.{List}
 use lib.ListN.{length}
 use Rattle.curve.specs.Answer.{Answer as Curve·Answer, paper as Curve·paper}
-use Rattle.curve.specs.Curve.{trcOf, tagOf as Curve·tagOf}
+use Rattle.curve.specs.Curve.{trcOf}
 use Rattle.curve.specs.declared.CurveAnswer.{CurveAnswer}
 use Rattle.curve.specs.declared.Walk.{Walk}
 use Rattle.run.specs.Run.{recordsOf}
@@ -31,19 +31,22 @@ use Rattle.table.specs.View.{tableBy, entryOf}
 use Rattle.table.specs.declared.EntryAnswer.{EntryAnswer}
 use Rattle.table.specs.declared.TableNumbers.{TableNumbers}
 
--- `read_lut_tag` and `read_trc_tag`, each on a walk; `read_string_tag`; `read_chad_tag`, `read_tech_tag`, `read_date_time_tag`,
--- `read_meas_tag`, `read_viewing_conditions`, `read_xyz_tag`, `read_cicp_tag`
+-- `read_chad_tag`, `read_tech_tag`, `read_date_time_tag`, `read_meas_tag`, `read_viewing_conditions`, `read_xyz_tag`, `read_cicp_tag`
+pub data Small : Type 0 where
+  chad : Small
+  sig : Small
+  date : Small
+  meas : Small
+  view : Small
+  xyz : Small
+  cicp : Small
+
+-- `read_lut_tag` and `read_trc_tag`, each on either walk; `read_string_tag`; the seven small ones
 pub data Reader : Type 0 where
   lut : Walk → Reader
   trc : Walk → Reader
   string : Reader
-  chad : Reader
-  sig : Reader
-  date : Reader
-  meas : Reader
-  view : Reader
-  xyz : Reader
-  cicp : Reader
+  small : Small → Reader
 
 -- the profile, the tag's offset and size, the limits of curve entries and of grid points, and the words of the lent slots. A reader without
 -- limits or slots does not look at them
@@ -56,70 +59,67 @@ pub record Call : Type 0 where
   pub slots : List ℕ
 
 -- what a reader returns
+abbrev pub SmallResult : Small → Type 0
+SmallResult chad = ChadAnswer
+SmallResult sig = SigAnswer
+SmallResult date = DateAnswer
+SmallResult meas = MeasAnswer
+SmallResult view = ViewAnswer
+SmallResult xyz = XyzAnswer
+SmallResult cicp = CicpAnswer
+
 abbrev pub Result : Reader → Type 0
 Result (lut walk) = Lut
 Result (trc walk) = CurveAnswer
 Result string = TextAnswer
-Result chad = ChadAnswer
-Result sig = SigAnswer
-Result date = DateAnswer
-Result meas = MeasAnswer
-Result view = ViewAnswer
-Result xyz = XyzAnswer
-Result cicp = CicpAnswer
+Result (small s) = SmallResult s
 
 -- its numbers
 abbrev pub Numbers : Reader → Type 0
 Numbers (lut walk) = Lut·Answer
 Numbers (trc walk) = Curve·Answer
 Numbers string = Text·Answer
-Numbers chad = Small·Answer
-Numbers sig = Small·Answer
-Numbers date = Small·Answer
-Numbers meas = Small·Answer
-Numbers view = Small·Answer
-Numbers xyz = Small·Answer
-Numbers cicp = Small·Answer
+Numbers (small s) = Small·Answer
+
+abbrev pub smallNumbers : (s : Small) → SmallResult s → Small·Answer
+smallNumbers chad x = paperChad x
+smallNumbers sig x = paperSig x
+smallNumbers date x = paperDate x
+smallNumbers meas x = paperMeas x
+smallNumbers view x = paperView x
+smallNumbers xyz x = paperXyz x
+smallNumbers cicp x = paperCicp x
 
 abbrev pub numbers : (r : Reader) → Result r → Numbers r
 numbers (lut walk) x = Lut·paper x
 numbers (trc walk) x = Curve·paper x
 numbers string x = Text·paper x
-numbers chad x = paperChad x
-numbers sig x = paperSig x
-numbers date x = paperDate x
-numbers meas x = paperMeas x
-numbers view x = paperView x
-numbers xyz x = paperXyz x
-numbers cicp x = paperCicp x
+numbers (small s) x = smallNumbers s x
 
 -- the numbers that a call is to be answered with
+abbrev pub smallOf : Small → List ℕ → ℕ → ℕ → Small·Answer
+smallOf chad profile entry size = chadOf profile entry size
+smallOf sig profile entry size = sigOf profile entry size
+smallOf date profile entry size = dateOf profile entry size
+smallOf meas profile entry size = measOf profile entry size
+smallOf view profile entry size = viewOf profile entry size
+smallOf xyz profile entry size = xyzOf profile entry size
+smallOf cicp profile entry size = cicpOf profile entry size
+
 abbrev pub meaning : (r : Reader) → Call → Numbers r
 meaning (lut walk) c = lutOf walk (c .entries) (c .points) (c .profile) (c .entry) (c .size) (length (c .slots))
 meaning (trc walk) c = trcOf walk (c .entries) (c .profile) (c .entry) (c .size)
 meaning string c = stringOf (c .profile) (c .entry) (c .size) (length (c .slots))
-meaning chad c = chadOf (c .profile) (c .entry) (c .size)
-meaning sig c = sigOf (c .profile) (c .entry) (c .size)
-meaning date c = dateOf (c .profile) (c .entry) (c .size)
-meaning meas c = measOf (c .profile) (c .entry) (c .size)
-meaning view c = viewOf (c .profile) (c .entry) (c .size)
-meaning xyz c = xyzOf (c .profile) (c .entry) (c .size)
-meaning cicp c = cicpOf (c .profile) (c .entry) (c .size)
+meaning (small s) c = smallOf s (c .profile) (c .entry) (c .size)
 
 -- and what it is to leave in the slots: the records that it read, in front, if its answer has records
 abbrev pub left : Reader → Call → List ℕ
 left (lut walk) c =
     let t = Lut·tagOf (c .profile) (c .entry) (c .size) in
     Lut·leftBy (meaning (lut walk) c .state) (recordsOf (curvesOf walk (c .entries) t (planOf t))) (c .slots)
-left string c = Text·leftBy (meaning string c) (wordsIn (recordsIn (Text·tagOf (c .profile) (c .entry) (c .size)) .records)) (c .slots)
 left (trc walk) c = c .slots
-left chad c = c .slots
-left sig c = c .slots
-left date c = c .slots
-left meas c = c .slots
-left view c = c .slots
-left xyz c = c .slots
-left cicp c = c .slots
+left string c = Text·leftBy (meaning string c) (wordsIn (recordsIn (Text·tagOf (c .profile) (c .entry) (c .size)) .records)) (c .slots)
+left (small s) c = c .slots
 
 -- the ways in which a call can end
 pub data Outcome : Type 0 where
@@ -156,13 +156,7 @@ abbrev pub outcome : (r : Reader) → Numbers r → Outcome
 outcome (lut walk) a = lutOutcome (a .state)
 outcome (trc walk) a = curveOutcome a
 outcome string a = textOutcome a
-outcome chad a = smallOutcome a
-outcome sig a = smallOutcome a
-outcome date a = smallOutcome a
-outcome meas a = smallOutcome a
-outcome view a = smallOutcome a
-outcome xyz a = smallOutcome a
-outcome cicp a = smallOutcome a
+outcome (small s) a = smallOutcome a
 
 -- a library: what each reader returns and how it leaves the lent slots, and what is read of a tag by the numbers of a colour table
 pub record Library : Type 0 where
