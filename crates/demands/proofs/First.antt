@@ -4,7 +4,7 @@ use Prim.Native.Nat.{ℕ, _+_, _≤_}
 use native.Mathlib.Nat.{zero-add}
 use native.Mathlib.Omega.{arith}
 use mathlib.Core.Path.{_≡_, refl, sym, ap, subst, _∙_}
-use mathlib.Core.List.{List, [], _++_, append-nil}
+use mathlib.Core.List.{List, [], append-nil}
 use lib.ListN.{length}
 use Rattle.curve.specs.Answer.{Answer as Curve·Answer}
 use Rattle.curve.specs.Shape.{Shape, sizeOf, wordsOf}
@@ -14,7 +14,7 @@ use Rattle.run.specs.Run.{dataEnd}
 use Rattle.run.proofs.Records.{words-end}
 use Rattle.mft.specs.Answer.{Fields}
 use Rattle.lut.specs.Abm.{toldTable as Abm·toldTable}
-use Rattle.lut.specs.Answer.{State, mft, abm, Abm, Answer as Lut·Answer, leftBy as Lut·leftBy}
+use Rattle.lut.specs.Answer.{mft, abm, Abm, Answer as Lut·Answer}
 use Rattle.lut.proofs.Inside.{lut-inside, mft-inside as mft-in-tag}
 use Rattle.text.specs.Answer.{Answer as Text·Answer, leftBy as Text·leftBy}
 use Rattle.text.specs.Mluc.{recordsIn, wordsIn}

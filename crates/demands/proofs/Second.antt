@@ -1,15 +1,14 @@
 -- Demand 2's proved half, of every library that keeps the contracts: one answer a call, and conformance to the standards' layouts.
 -- Assumes nothing.
 use Prim.Native.Nat.{ℕ, _+_, _/_, _≤_, _<_, _^_}
-use native.Mathlib.Omega.{arith}
 use mathlib.Core.Path.{_≡_, refl, sym, ap, subst, _∙_}
 use mathlib.Core.Bool.{Bool, true, false, _&&_}
 use mathlib.Core.List.{List, _++_}
 use mathlib.Core.Logic.{_⊎_, inl, inr}
 use lib.Dec.{leb, ltb}
-use lib.ListN.{length, drop}
+use lib.ListN.{length}
 use borrow.Author.Tests.{le-ltb}
-use Rattle.clut.specs.Table.{Table, inGrid, numberOf, lengthOf}
+use Rattle.clut.specs.Table.{Table}
 use Rattle.curve.specs.Answer.{Answer as Curve·Answer}
 use Rattle.curve.specs.Shape.{Shape, wordsOf, stepOf}
 use Rattle.curve.specs.Standard.{Laid as CurveLaid, Within as CurveWithin}
@@ -18,8 +17,8 @@ use Rattle.curve.specs.declared.Walk.the-variants.{Book}
 use Rattle.curve.proofs.Conforms.{lone-accepted, laid as curve-laid-out}
 use Rattle.curve.proofs.Inside.{accepted-inside}
 use Rattle.curve.proofs.Unique.{unique as curve-unique}
-use Rattle.run.specs.Run.{Placed, recordWords, recordsOf}
-use Rattle.mft.specs.Answer.{Fields, answerOf, fieldsOf, toldTable as Mft·toldTable}
+use Rattle.run.specs.Run.{Placed, recordWords}
+use Rattle.mft.specs.Answer.{Fields, answerOf, toldTable as Mft·toldTable}
 use Rattle.mft.specs.Standard.{LaidOut as MftLaidOut, Asked as MftAsked}
 use Rattle.lut.specs.Abm.{toldTable as Abm·toldTable, valueFrom}
 use Rattle.lut.specs.Answer.{mft, abm, Abm, Answer as Lut·Answer}
@@ -33,16 +32,14 @@ use Rattle.small.specs.Answer.{Answer as Small·Answer}
 use Rattle.small.specs.Standard.{Accepts, AcceptsOnly}
 use Rattle.small.proofs.Conforms.{chad-accepts, chad-laid, sig-accepts, sig-laid, date-accepts, date-laid, meas-accepts, meas-laid, view-accepts, view-laid, xyz-accepts, xyz-laid, cicp-accepts, cicp-laid}
 use Rattle.small.proofs.Unique.{chad-unique, sig-unique, date-unique, meas-unique, view-unique, xyz-unique, cicp-unique}
-use Rattle.table.specs.Answer.{Told}
-use Rattle.table.specs.Order.{Before}
-use Rattle.table.specs.View.{numbersOf, tableBy, entryOf, storedAt}
+use Rattle.table.specs.View.{numbersOf, tableBy}
 use Rattle.table.specs.declared.TableNumbers.{TableNumbers}
 use Rattle.table.proofs.Any.{invalid-absent}
 use Rattle.table.proofs.Order.{entries-in-order}
 use Rattle.table.proofs.Shows.{Shows as TableShows, abm-shows, mft-shows}
 use Rattle.text.specs.Answer.{Answer as Text·Answer, span}
 use Rattle.text.specs.Layout.{asciiEnd, unicodeLanguage}
-use Rattle.text.specs.Mluc.{Localized, recordWords as textWords, recordsIn, wordsIn}
+use Rattle.text.specs.Mluc.{Localized, recordWords as textWords, recordsIn}
 use Rattle.text.specs.Standard.{TextType, TextDescriptionType, MultiLocalizedUnicodeType, unicodeRange}
 use Rattle.text.proofs.Conforms.{text-conforms, desc-conforms, mluc-conforms, mluc-records, Taken, accepted}
 use Rattle.text.proofs.Found.{Value}

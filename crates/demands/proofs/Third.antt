@@ -1,9 +1,8 @@
 -- Demand 3 of every library that keeps the contracts: bytes, limits and slots each alone, along the readers' own theorems, then together.
 -- Assumes nothing.
-use Prim.Native.Nat.{ℕ, _+_, _*_, _/_, _≤_, _<_}
+use Prim.Native.Nat.{ℕ, _+_, _/_, _≤_}
 use native.Mathlib.Omega.{arith}
 use mathlib.Core.Path.{_≡_, refl, sym, ap, subst, _∙_}
-use mathlib.Core.Bool.{true}
 use mathlib.Core.List.{List, [], _++_, append-nil, append-assoc}
 use mathlib.Core.Logic.{_⊎_, inl, inr}
 use lib.Dec.{ltb, eqb}
@@ -16,13 +15,11 @@ use Rattle.fields.specs.Tag.{signatureOf}
 use Rattle.fields.specs.declared.Kind.the-variants.{Text, Mluc, Desc}
 use Rattle.fields.proofs.Choice.{each}
 use Rattle.fields.proofs.Grow.{Grows}
-use Rattle.curve.specs.Answer.{Answer as Curve·Answer}
 use Rattle.curve.specs.declared.Walk.{Walk}
 use Rattle.curve.proofs.More.{short, more-bytes as curve-bytes, more-limit as curve-limit}
-use Rattle.lut.specs.Answer.{State, mft, abm, absent as State·absent, refused as State·refused, Answer as Lut·Answer}
+use Rattle.lut.specs.Answer.{State, mft, abm, absent as State·absent, refused as State·refused}
 use Rattle.lut.proofs.Accepted.{IsValue}
 use Rattle.lut.proofs.More.{more-bytes as lut-bytes, more-limits as lut-limits, more-slots as lut-slots, value-stays as lut-stays}
-use Rattle.small.specs.Answer.{Answer as Small·Answer}
 use Rattle.small.proofs.More.{Past, chad-more, sig-more, date-more, meas-more, view-more, xyz-more, cicp-more}
 use Rattle.text.specs.Answer.{Answer as Text·Answer, leftBy as Text·leftBy}
 use Rattle.text.specs.Layout.{asciiEnd}
@@ -32,7 +29,7 @@ use Rattle.text.proofs.Conforms.{Taken, accepted}
 use Rattle.text.proofs.Found.{Value}
 use Rattle.text.proofs.More.{more-bytes as text-bytes, more-slots as text-slots, value-stays as text-stays}
 use Rattle.text.proofs.Records.{words-length}
-use Rattle.demands.specs.Readers.{Small, chad, sig, date, meas, view, xyz, cicp, Reader, lut, trc, string, small, Call, smallOf, Numbers, numbers, meaning, left, Outcome, value, default, absent, refused, outcome, lutOutcome, curveOutcome, smallOutcome, textOutcome, Library, ends, Promised}
+use Rattle.demands.specs.Readers.{Small, chad, sig, date, meas, view, xyz, cicp, Reader, lut, trc, string, small, Call, smallOf, meaning, left, Outcome, value, default, absent, refused, outcome, lutOutcome, curveOutcome, smallOutcome, textOutcome, Library, ends, Promised}
 use Rattle.demands.specs.Demands.{tag, appended, raised, lent, Same, ByBytes, ByLimits, BySlots, Demand3}
 use Rattle.demands.proofs.Ends.{Spares, left-spared, ends-so}
 use Rattle.demands.proofs.Second.{unique}

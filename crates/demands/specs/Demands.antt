@@ -21,7 +21,7 @@ use Rattle.mft.specs.Answer.{Fields, fieldsOf, toldTable as Mft·toldTable}
 use Rattle.mft.specs.Layout.{matrixOf as Mft·matrixOf}
 use Rattle.mft.specs.Standard.{LaidOut as MftLaidOut, Asked as MftAsked}
 use Rattle.lut.specs.Abm.{toldTable as Abm·toldTable, valueFrom}
-use Rattle.lut.specs.Answer.{State, mft, abm, Abm}
+use Rattle.lut.specs.Answer.{mft, abm, Abm}
 use Rattle.lut.specs.Layout.{matrixOffset, recordsNeeded}
 use Rattle.lut.specs.Standard.{LaidOut as AbmLaidOut, Asked as AbmAsked}
 use Rattle.text.specs.Answer.{Answer as Text·Answer, Span, span, Unicode}
