@@ -22,7 +22,7 @@ use Rattle.text.proofs.Found.{Value}
 use Rattle.text.proofs.Inside.{ValueInside, value-inside}
 use Rattle.small.specs.Answer.{Answer as Small·Answer}
 use Rattle.small.proofs.Inside.{chad-inside, sig-inside, view-inside, xyz-inside, cicp-inside, meas-inside, date-inside}
-use Rattle.demands.specs.Readers.{Small, chad, sig, date, meas, view, xyz, cicp, lut, trc, string, small, Call, numbers, smallOf, meaning, value, smallOutcome, Library, ends, Promised}
+use Rattle.demands.specs.Readers.{Small, chad, sig, date, meas, view, xyz, cicp, lut, trc, string, small, Call, smallOf, meaning, value, smallOutcome, Library, ends, Promised, says}
 use Rattle.demands.specs.Demands.{tag, curveTag, IndexInside, AbmInside, MftInside, TextInside, FieldsInside, Demand1}
 use Rattle.demands.proofs.Ends.{Spares, numbered, ends-so, leaves-spared}
 
@@ -49,7 +49,7 @@ small-inside xyz c ns e = let i = xyz-inside (c .profile) (c .entry) (c .size) n
 small-inside cicp c ns e = let i = cicp-inside (c .profile) (c .entry) (c .size) ns e in (i .in-tag, i .in-profile)
 
 module _ (l : Library) (p : Promised l) where
-  abm-inside : (walk : Walk) (c : Call) (f : Abm) → let a = numbers (lut walk) (l .returns (lut walk) c) in a .state ≡ abm f → AbmInside c (l .leaves (lut walk) c) (a .grid) f
+  abm-inside : (walk : Walk) (c : Call) (f : Abm) → says l (lut walk) c .state ≡ abm f → AbmInside c (l .leaves (lut walk) c) (says l (lut walk) c .grid) f
   abm-inside walk c f h =
       let e = p .answers (lut walk) c in
       let s : meaning (lut walk) c .state ≡ abm f = ap (λ (a : Lut·Answer). a .state) (sym e) ∙ h in
@@ -63,7 +63,7 @@ module _ (l : Library) (p : Promised l) where
             (λ index channel valid. i .entry-in-table sized index channel (valid .0) (valid .1));
       }
 
-  mft-inside : (walk : Walk) (c : Call) (f : Fields) → numbers (lut walk) (l .returns (lut walk) c) .state ≡ mft f → MftInside c f
+  mft-inside : (walk : Walk) (c : Call) (f : Fields) → says l (lut walk) c .state ≡ mft f → MftInside c f
   mft-inside walk c f h =
       let s : meaning (lut walk) c .state ≡ mft f = ap (λ (a : Lut·Answer). a .state) (sym (p .answers (lut walk) c)) ∙ h in
       let i = mft-in-tag walk (c .entries) (c .points) (c .profile) (c .entry) (c .size) (length (c .slots)) f s in
@@ -76,12 +76,12 @@ module _ (l : Library) (p : Promised l) where
         index-in-table = λ index channel valid. i .1 .entry-in-table index channel (valid .0) (valid .1);
       }
 
-  curve-inside : (walk : Walk) (c : Call) (words : List ℕ) (consumed : ℕ) → numbers (trc walk) (l .returns (trc walk) c) ≡ Curve·Answer.value words consumed → (dataEnd words ≤ length (curveTag c)) × (c .entry + c .size ≤ length (c .profile))
+  curve-inside : (walk : Walk) (c : Call) (words : List ℕ) (consumed : ℕ) → says l (trc walk) c ≡ Curve·Answer.value words consumed → (dataEnd words ≤ length (curveTag c)) × (c .entry + c .size ≤ length (c .profile))
   curve-inside walk c words consumed h =
       let i = accepted-inside walk (c .entries) (c .profile) (c .entry) (c .size) words consumed (sym (p .answers (trc walk) c) ∙ h) in
       (omega (arith, ap dataEnd (i .curve .record-is) ∙ data-end (i .curve .shape), i .curve-in-tag), i .tag-in-profile)
 
-  text-inside : (c : Call) → TextInside c (l .leaves string c) (numbers string (l .returns string c))
+  text-inside : (c : Call) → TextInside c (l .leaves string c) (says l string c)
   text-inside c = rw (p .leaves-so string c, p .answers string c) (by (meaning string c) (value-inside (c .profile) (c .entry) (c .size) (length (c .slots))))
     where
       by : (a : Text·Answer) → (Value a → ValueInside (c .profile) (c .entry) (c .size) a) → TextInside c (Text·leftBy a (wordsIn (recordsIn (tag c) .records)) (c .slots)) a

@@ -22,9 +22,10 @@ use Rattle.mft.specs.Answer.{Fields, answerOf, toldTable as Mft·toldTable}
 use Rattle.mft.specs.Standard.{LaidOut as MftLaidOut, Asked as MftAsked}
 use Rattle.lut.specs.Abm.{toldTable as Abm·toldTable, valueFrom}
 use Rattle.lut.specs.Answer.{mft, abm, Abm, Answer as Lut·Answer}
-use Rattle.lut.specs.Layout.{planOf, recordsNeeded}
+use Rattle.lut.specs.Layout.{planOf, aCurves, mCurves, bCurves, recordsNeeded}
 use Rattle.lut.specs.Parts.{curvesOf, runA, runM, runB}
 use Rattle.lut.specs.Standard.{LaidOut as AbmLaidOut, Asked as AbmAsked}
+use Rattle.lut.proofs.Accepted.{abm-found}
 use Rattle.lut.proofs.Conforms.{lone-conforms, conforms-curves, laid as abm-laid-out, mft-conforms, mft-laid as mft-laid-out}
 use Rattle.lut.proofs.Inside.{mft-inside as mft-in-tag}
 use Rattle.lut.proofs.Unique.{unique as lut-unique}
@@ -44,7 +45,7 @@ use Rattle.text.specs.Standard.{TextType, TextDescriptionType, MultiLocalizedUn
 use Rattle.text.proofs.Conforms.{text-conforms, desc-conforms, mluc-conforms, mluc-records, Taken, accepted}
 use Rattle.text.proofs.Found.{Value}
 use Rattle.text.proofs.Unique.{unique as text-unique}
-use Rattle.demands.specs.Readers.{Small, chad, sig, date, meas, view, xyz, cicp, Reader, lut, trc, string, small, Call, SmallResult, smallNumbers, smallOf, Result, Numbers, numbers, meaning, Library, Promised}
+use Rattle.demands.specs.Readers.{Small, chad, sig, date, meas, view, xyz, cicp, Reader, lut, trc, string, small, Call, SmallResult, smallNumbers, smallOf, Result, Numbers, numbers, meaning, Library, Promised, says}
 use Rattle.demands.specs.Demands.{tag, curveTag, TagInside, CurveAs, AbmSaid, AbmAs, MftSaid, MlucSaid, MlucAs, Layout, Asked, AskedBack, ofTag, Shows, Demand2}
 
 -- ---- one call, one answer: a result is determined by its numbers
@@ -97,16 +98,16 @@ long-enough size (inr l) = rw (le-ltb size 12 l) (by (leb 1 size))
 
 module _ (l : Library) (p : Promised l) where
   -- what the meaning of lookup tables says, the library returns
-  lut-state : (walk : Walk) (c : Call) → numbers (lut walk) (l .returns (lut walk) c) .state ≡ meaning (lut walk) c .state
+  lut-state : (walk : Walk) (c : Call) → says l (lut walk) c .state ≡ meaning (lut walk) c .state
   lut-state walk c = ap (λ (a : Lut·Answer). a .state) (p .answers (lut walk) c)
 
   -- ---- curves
 
-  curve-accepted : (walk : Walk) (c : Call) (s : Shape) → c .entry + 4 ≤ length (c .profile) → c .entry + c .size ≤ length (c .profile) → (c .size ≡ 0) ⊎ (12 ≤ c .size) → CurveLaid (curveTag c) s → CurveWithin (c .entries) s → numbers (trc walk) (l .returns (trc walk) c) ≡ Curve·Answer.value (wordsOf 12 s) (stepOf walk s)
+  curve-accepted : (walk : Walk) (c : Call) (s : Shape) → c .entry + 4 ≤ length (c .profile) → c .entry + c .size ≤ length (c .profile) → (c .size ≡ 0) ⊎ (12 ≤ c .size) → CurveLaid (curveTag c) s → CurveWithin (c .entries) s → says l (trc walk) c ≡ Curve·Answer.value (wordsOf 12 s) (stepOf walk s)
   curve-accepted walk c s four whole long laid within =
       p .answers (trc walk) c ∙ lone-accepted walk (c .entries) (c .profile) (c .entry) (c .size) s four whole (long-enough (c .size) long) laid within
 
-  curve-laid : (walk : Walk) (c : Call) (words : List ℕ) (consumed : ℕ) → numbers (trc walk) (l .returns (trc walk) c) ≡ Curve·Answer.value words consumed → CurveAs walk (c .entries) (curveTag c) words consumed
+  curve-laid : (walk : Walk) (c : Call) (words : List ℕ) (consumed : ℕ) → says l (trc walk) c ≡ Curve·Answer.value words consumed → CurveAs walk (c .entries) (curveTag c) words consumed
   curve-laid walk c words consumed h =
       let i = accepted-inside walk (c .entries) (c .profile) (c .entry) (c .size) words consumed (sym (p .answers (trc walk) c) ∙ h) in
       let k = curve-laid-out (c .entries) (curveTag c) (i .curve .shape) (i .curve .seen) in
@@ -120,7 +121,7 @@ module _ (l : Library) (p : Promised l) where
       let e = lone-conforms (c .entries) (c .points) (c .profile) (c .entry) (c .size) table a m b whole laid asked (length (c .slots)) room in
       record { answer-is = p .answers (lut Book) c ∙ e; slots-are = p .leaves-so (lut Book) c ∙ rw (e, conforms-curves (c .entries) (tag c) table a m b laid asked) }
 
-  abm-laid : (c : Call) (f : Abm) → numbers (lut Book) (l .returns (lut Book) c) .state ≡ abm f → AbmAs l c
+  abm-laid : (c : Call) (f : Abm) → says l (lut Book) c .state ≡ abm f → AbmAs l c
   unfolding valueFrom curvesOf
   abm-laid c f h =
       let k = abm-laid-out (c .entries) (c .points) (c .profile) (c .entry) (c .size) (length (c .slots)) f (sym (lut-state Book c) ∙ h) in
@@ -134,13 +135,20 @@ module _ (l : Library) (p : Promised l) where
         said = record { answer-is = p .answers (lut Book) c ∙ k .answer-is; slots-are = p .leaves-so (lut Book) c ∙ rw (k .answer-is) };
       }
 
+  abm-counts : (walk : Walk) (c : Call) (f : Abm) → says l (lut walk) c .state ≡ abm f → (f .a ≡ aCurves (tag c)) × (f .m ≡ mCurves (tag c)) × (f .b ≡ bCurves (tag c))
+  unfolding valueFrom
+  abm-counts walk c f h =
+      let w = abm-found walk (c .entries) (c .points) (c .profile) (c .entry) (c .size) (length (c .slots)) f (sym (lut-state walk c) ∙ h) in
+      let e = sym h ∙ lut-state walk c ∙ ap (λ (a : Lut·Answer). a .state) (w .as-abm ∙ w .behind .answer-is) in
+      (cc, cc, cc)
+
   mft-accepted : (walk : Walk) (c : Call) → TagInside c → MftLaidOut (tag c) → MftAsked (c .points) (tag c) → MftSaid l walk c
   unfolding answerOf
   mft-accepted walk c whole laid asked =
       let e = p .answers (lut walk) c ∙ mft-conforms walk (c .entries) (c .points) (c .profile) (c .entry) (c .size) (length (c .slots)) whole laid asked in
       record { fields-are = ap (λ (a : Lut·Answer). a .state) e; matrix-is = ap (λ (a : Lut·Answer). a .matrix) e }
 
-  mft-laid : (walk : Walk) (c : Call) (f : Fields) → numbers (lut walk) (l .returns (lut walk) c) .state ≡ mft f → MftLaidOut (tag c) × MftAsked (c .points) (tag c) × MftSaid l walk c
+  mft-laid : (walk : Walk) (c : Call) (f : Fields) → says l (lut walk) c .state ≡ mft f → MftLaidOut (tag c) × MftAsked (c .points) (tag c) × MftSaid l walk c
   mft-laid walk c f h =
       let s : meaning (lut walk) c .state ≡ mft f = sym (lut-state walk c) ∙ h in
       let k = mft-laid-out walk (c .entries) (c .points) (c .profile) (c .entry) (c .size) (length (c .slots)) f s in
@@ -149,10 +157,10 @@ module _ (l : Library) (p : Promised l) where
 
   -- ---- text
 
-  text-accepted : (c : Call) (n : ℕ) → TagInside c → TextType (tag c) n → numbers string (l .returns string c) ≡ Text·Answer.text (span 8 n)
+  text-accepted : (c : Call) (n : ℕ) → TagInside c → TextType (tag c) n → says l string c ≡ Text·Answer.text (span 8 n)
   text-accepted c n whole h = p .answers string c ∙ text-conforms (c .profile) (c .entry) (c .size) whole (length (c .slots)) n h
 
-  desc-accepted : (c : Call) (n m : ℕ) → TagInside c → TextDescriptionType (tag c) n m → let at : ℕ = asciiEnd (tag c) in numbers string (l .returns string c) ≡ Text·Answer.desc (span 12 n) record { language = unicodeLanguage (tag c) at; string = unicodeRange (tag c) at m }
+  desc-accepted : (c : Call) (n m : ℕ) → TagInside c → TextDescriptionType (tag c) n m → let at : ℕ = asciiEnd (tag c) in says l string c ≡ Text·Answer.desc (span 12 n) record { language = unicodeLanguage (tag c) at; string = unicodeRange (tag c) at m }
   desc-accepted c n m whole h = p .answers string c ∙ desc-conforms (c .profile) (c .entry) (c .size) whole (length (c .slots)) n m h
 
   mluc-accepted : (c : Call) (rs : List Localized) → TagInside c → MultiLocalizedUnicodeType (tag c) rs → length rs ≤ length (c .slots) / textWords → MlucSaid l c rs
@@ -161,13 +169,13 @@ module _ (l : Library) (p : Promised l) where
       record { answer-is = p .answers string c ∙ e; slots-are = p .leaves-so string c ∙ rw (e, mluc-records (tag c) rs h) }
 
   -- what is accepted is taken
-  string-taken : (c : Call) (a : Text·Answer) → Value a → numbers string (l .returns string c) ≡ a → (meaning string c ≡ a) × Taken (tag c) a
+  string-taken : (c : Call) (a : Text·Answer) → Value a → says l string c ≡ a → (meaning string c ≡ a) × Taken (tag c) a
   string-taken c a v h =
       let e : meaning string c ≡ a = sym (p .answers string c) ∙ h in
       let k = accepted (c .profile) (c .entry) (c .size) (length (c .slots)) (subst Value (sym e) v) in
       (e, subst (Taken (tag c)) e (k .laid))
 
-  mluc-taken : (c : Call) (n : ℕ) → numbers string (l .returns string c) ≡ Text·Answer.mluc n → MlucAs l c
+  mluc-taken : (c : Call) (n : ℕ) → says l string c ≡ Text·Answer.mluc n → MlucAs l c
   mluc-taken c n h =
       let k = string-taken c (Text·Answer.mluc n) tt h in
       let count = k .1 .count-is in
@@ -183,12 +191,12 @@ module _ (l : Library) (p : Promised l) where
   shows t n table bytes h index channel valid =
       (p .reads-so t n index channel ∙ h .entry-is index channel (valid .0) (valid .1), h .entry-in-table index channel (valid .0) (valid .1))
 
-  abm-shown : (walk : Walk) (c : Call) (f : Abm) → c .size < 2 ^ 32 → let a = numbers (lut walk) (l .returns (lut walk) c) in a .state ≡ abm f → 1 ≤ f .size → Shows l (tag c) (numbersOf (abm f)) (Abm·toldTable (a .grid) f) (f .bytes)
+  abm-shown : (walk : Walk) (c : Call) (f : Abm) → c .size < 2 ^ 32 → says l (lut walk) c .state ≡ abm f → 1 ≤ f .size → Shows l (tag c) (numbersOf (abm f)) (Abm·toldTable (says l (lut walk) c .grid) f) (f .bytes)
   abm-shown walk c f low h sized =
       subst (λ (g : List ℕ). Shows l (tag c) (numbersOf (abm f)) (Abm·toldTable g f) (f .bytes)) (ap (λ (a : Lut·Answer). a .grid) (sym (p .answers (lut walk) c)))
       (shows _ _ _ _ (abm-shows walk (c .entries) (c .points) (c .profile) (c .entry) (c .size) (length (c .slots)) low f (sym (lut-state walk c) ∙ h) sized))
 
-  mft-shown : (walk : Walk) (c : Call) (f : Fields) → c .size < 2 ^ 32 → numbers (lut walk) (l .returns (lut walk) c) .state ≡ mft f → Shows l (tag c) (numbersOf (mft f)) (Mft·toldTable f) (f .clutBytes)
+  mft-shown : (walk : Walk) (c : Call) (f : Fields) → c .size < 2 ^ 32 → says l (lut walk) c .state ≡ mft f → Shows l (tag c) (numbersOf (mft f)) (Mft·toldTable f) (f .clutBytes)
   mft-shown walk c f low h =
       shows _ _ _ _ (mft-shows walk (c .entries) (c .points) (c .profile) (c .entry) (c .size) (length (c .slots)) low f (sym (lut-state walk c) ∙ h))
 
@@ -201,6 +209,7 @@ module _ (l : Library) (p : Promised l) where
         curve-laid = curve-laid;
         abm-accepted = abm-accepted;
         abm-laid = abm-laid;
+        abm-counts = abm-counts;
         mft-accepted = mft-accepted;
         mft-laid = mft-laid;
         text-accepted = text-accepted;

@@ -30,7 +30,7 @@ use Rattle.text.proofs.Found.{Value}
 use Rattle.text.proofs.More.{more-bytes as text-bytes, more-slots as text-slots, value-stays as text-stays}
 use Rattle.text.proofs.Records.{words-length}
 use Rattle.demands.specs.Readers.{Small, chad, sig, date, meas, view, xyz, cicp, Reader, lut, trc, string, small, Call, smallOf, meaning, left, Outcome, value, default, absent, refused, outcome, lutOutcome, curveOutcome, smallOutcome, textOutcome, Library, ends, Promised}
-use Rattle.demands.specs.Demands.{tag, appended, raised, lent, Same, ByBytes, ByLimits, BySlots, Demand3}
+use Rattle.demands.specs.Demands.{tag, appended, raised, lent, Same, ByBytes, ByLimits, BySlots, Demand3, given}
 use Rattle.demands.proofs.Ends.{Spares, left-spared, ends-so}
 use Rattle.demands.proofs.Second.{unique}
 
@@ -124,7 +124,7 @@ module _ (p : List ℕ) (entry size words : ℕ) where
       (λ _. no))))))
 
 -- of a value every word is left as before, and those lent besides stay
-lut-left : (walk : Walk) (c : Call) (q : List ℕ) (entries points : ℕ) (x : List ℕ) → c .entries ≤ entries → c .points ≤ points → outcome (lut walk) (meaning (lut walk) c) ≡ value → left (lut walk) (lent x (raised entries points (appended q c))) ≡ left (lut walk) c ++ x
+lut-left : (walk : Walk) (c : Call) (q : List ℕ) (entries points : ℕ) (x : List ℕ) → c .entries ≤ entries → c .points ≤ points → outcome (lut walk) (meaning (lut walk) c) ≡ value → left (lut walk) (given q entries points x c) ≡ left (lut walk) c ++ x
 unfolding IsValue
 lut-left walk c q entries points x h k v =
     lut-stays walk (c .entries) entries h (c .points) points k (c .profile) q (c .entry) (c .size) (c .slots) x (by (meaning (lut walk) c .state) v) .slots-stay
@@ -158,21 +158,21 @@ text-left c q x v =
     by Text·Answer.absent e = refl
     by (Text·Answer.refused n) e = refl
 
-left-grows : (r : Reader) (c : Call) (q : List ℕ) (entries points : ℕ) (x : List ℕ) → c .entries ≤ entries → c .points ≤ points → outcome r (meaning r c) ≡ value → left r (lent x (raised entries points (appended q c))) ≡ left r c ++ x
+left-grows : (r : Reader) (c : Call) (q : List ℕ) (entries points : ℕ) (x : List ℕ) → c .entries ≤ entries → c .points ≤ points → outcome r (meaning r c) ≡ value → left r (given q entries points x c) ≡ left r c ++ x
 left-grows (lut walk) c q entries points x h k v = lut-left walk c q entries points x h k v
 left-grows (trc walk) c q entries points x h k v = refl
 left-grows string c q entries points x h k v = text-left c q x v
 left-grows (small s) c q entries points x h k v = refl
 
 -- where the same is said, the slots are left the same: a value's as above, and all others as they were lent
-left-stays : (r : Reader) (c : Call) (q : List ℕ) (entries points : ℕ) (x : List ℕ) → c .entries ≤ entries → c .points ≤ points → meaning r (lent x (raised entries points (appended q c))) ≡ meaning r c → left r (lent x (raised entries points (appended q c))) ≡ left r c ++ x
+left-stays : (r : Reader) (c : Call) (q : List ℕ) (entries points : ℕ) (x : List ℕ) → c .entries ≤ entries → c .points ≤ points → meaning r (given q entries points x c) ≡ meaning r c → left r (given q entries points x c) ≡ left r c ++ x
 left-stays r c q entries points x h k e = by (outcome r (meaning r c)) refl
   where
-    spared : Spares (outcome r (meaning r c)) → left r (lent x (raised entries points (appended q c))) ≡ left r c ++ x
+    spared : Spares (outcome r (meaning r c)) → left r (given q entries points x c) ≡ left r c ++ x
     spared s =
-        left-spared r (lent x (raised entries points (appended q c))) (subst Spares (ap (outcome r) (sym e)) s) ∙ ap (λ (w : List ℕ). w ++ x) (sym (left-spared r c s))
+        left-spared r (given q entries points x c) (subst Spares (ap (outcome r) (sym e)) s) ∙ ap (λ (w : List ℕ). w ++ x) (sym (left-spared r c s))
 
-    by : (o : Outcome) → outcome r (meaning r c) ≡ o → left r (lent x (raised entries points (appended q c))) ≡ left r c ++ x
+    by : (o : Outcome) → outcome r (meaning r c) ≡ o → left r (given q entries points x c) ≡ left r c ++ x
     by value f = left-grows r c q entries points x h k f
     by default f = spared (subst Spares (sym f) tt)
     by absent f = spared (subst Spares (sym f) tt)
@@ -197,7 +197,7 @@ module _ (l : Library) (p : Promised l) where
       }
 
   -- a call that is given all three is one that is given some, if the others are none
-  alone : (r : Reader) (c d : Call) (q : List ℕ) (entries points : ℕ) (x : List ℕ) → c .entries ≤ entries → c .points ≤ points → lent x (raised entries points (appended q c)) ≡ d → meaning r d ≡ meaning r c → Same l r c d x
+  alone : (r : Reader) (c d : Call) (q : List ℕ) (entries points : ℕ) (x : List ℕ) → c .entries ≤ entries → c .points ≤ points → given q entries points x c ≡ d → meaning r d ≡ meaning r c → Same l r c d x
   alone r c d q entries points x h k e f = same r c d x f (sym (ap (left r) e) ∙ left-stays r c q entries points x h k (ap (meaning r) e ∙ f))
 
   bytes : (r : Reader) (c : Call) (q : List ℕ) → ByBytes r c (ends l r c) ⊎ Same l r c (appended q c) []
@@ -218,7 +218,7 @@ module _ (l : Library) (p : Promised l) where
     | inr e ↦ inr (alone r c (lent x c) [] (c .entries) (c .points) x (omega arith) (omega arith) (λ i. record { profile = append-nil (c .profile) i; entry = c .entry; size = c .size; entries = c .entries; points = c .points; slots = c .slots ++ x }) e)
   ]
 
-  all : (r : Reader) (c : Call) (q : List ℕ) (entries points : ℕ) (x : List ℕ) → c .entries ≤ entries → c .points ≤ points → (ByBytes r c (ends l r c) ⊎ ByLimits (ends l r c) ⊎ BySlots (ends l r c)) ⊎ Same l r c (lent x (raised entries points (appended q c))) x
+  all : (r : Reader) (c : Call) (q : List ℕ) (entries points : ℕ) (x : List ℕ) → c .entries ≤ entries → c .points ≤ points → (ByBytes r c (ends l r c) ⊎ ByLimits (ends l r c) ⊎ BySlots (ends l r c)) ⊎ Same l r c (given q entries points x c) x
   all r c q entries points x h k =
       let said = sym (ends-so l p r c) in
       elim (by-bytes r c q) [
@@ -233,7 +233,7 @@ module _ (l : Library) (p : Promised l) where
       ]
 
   -- what is not of the kind that may change stays
-  stays : (r : Reader) (c : Call) (q : List ℕ) (entries points : ℕ) (x : List ℕ) → c .entries ≤ entries → c .points ≤ points → (ends l r c ≡ absent → ⊥) → ((n : ℕ) → ends l r c ≡ refused n → ⊥) → Same l r c (lent x (raised entries points (appended q c))) x
+  stays : (r : Reader) (c : Call) (q : List ℕ) (entries points : ℕ) (x : List ℕ) → c .entries ≤ entries → c .points ≤ points → (ends l r c ≡ absent → ⊥) → ((n : ℕ) → ends l r c ≡ refused n → ⊥) → Same l r c (given q entries points x c) x
   stays r c q entries points x h k a b = elim (all r c q entries points x h k) [
     | inl e ↦ absurd (fixed r c (ends l r c) a b e)
     | inr s ↦ s

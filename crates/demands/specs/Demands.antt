@@ -22,7 +22,7 @@ use Rattle.mft.specs.Layout.{matrixOf as Mft·matrixOf}
 use Rattle.mft.specs.Standard.{LaidOut as MftLaidOut, Asked as MftAsked}
 use Rattle.lut.specs.Abm.{toldTable as Abm·toldTable, valueFrom}
 use Rattle.lut.specs.Answer.{mft, abm, Abm}
-use Rattle.lut.specs.Layout.{matrixOffset, recordsNeeded}
+use Rattle.lut.specs.Layout.{matrixOffset, aCurves, mCurves, bCurves, recordsNeeded}
 use Rattle.lut.specs.Standard.{LaidOut as AbmLaidOut, Asked as AbmAsked}
 use Rattle.text.specs.Answer.{Answer as Text·Answer, Span, span, Unicode}
 use Rattle.text.specs.Layout.{textStart, asciiStart, asciiEnd, unicodeLanguage}
@@ -34,7 +34,7 @@ use Rattle.table.specs.Answer.{Told, paper as Table·paper}
 use Rattle.table.specs.Order.{Before}
 use Rattle.table.specs.View.{numbersOf, tableBy, storedAt}
 use Rattle.table.specs.declared.TableNumbers.{TableNumbers}
-use Rattle.demands.specs.Readers.{Small, chad, sig, date, meas, view, xyz, cicp, Reader, lut, trc, string, small, Call, Result, numbers, meaning, Outcome, value, default, absent, refused, Library, ends, Promised}
+use Rattle.demands.specs.Readers.{Small, chad, sig, date, meas, view, xyz, cicp, Reader, lut, trc, string, small, Call, Result, numbers, meaning, Outcome, value, default, absent, refused, Library, ends, Promised, says}
 
 -- the bytes of the tag, in lookup tables and text, and of a lone curve
 abbrev pub tag : Call → List ℕ
@@ -106,11 +106,11 @@ pub record Demand1 (l : Library) : Type 0 where
   pub refusal-leaves-slots : (r : Reader) (c : Call) (n : ℕ) → ends l r c ≡ refused n → l .leaves r c ≡ c .slots
   pub absence-leaves-slots : (r : Reader) (c : Call) → ends l r c ≡ absent → l .leaves r c ≡ c .slots
   -- in an accepted lookup table each curve, matrix and table lies inside its tag, and each valid index reads inside the colour table
-  pub abm-inside : (walk : Walk) (c : Call) (f : Abm) → let a = numbers (lut walk) (l .returns (lut walk) c) in a .state ≡ abm f → AbmInside c (l .leaves (lut walk) c) (a .grid) f
-  pub mft-inside : (walk : Walk) (c : Call) (f : Fields) → numbers (lut walk) (l .returns (lut walk) c) .state ≡ mft f → MftInside c f
+  pub abm-inside : (walk : Walk) (c : Call) (f : Abm) → says l (lut walk) c .state ≡ abm f → AbmInside c (l .leaves (lut walk) c) (says l (lut walk) c .grid) f
+  pub mft-inside : (walk : Walk) (c : Call) (f : Fields) → says l (lut walk) c .state ≡ mft f → MftInside c f
   -- and what the other readers accept
-  pub curve-inside : (walk : Walk) (c : Call) (words : List ℕ) (consumed : ℕ) → numbers (trc walk) (l .returns (trc walk) c) ≡ Curve·Answer.value words consumed → (dataEnd words ≤ length (curveTag c)) × (c .entry + c .size ≤ length (c .profile))
-  pub text-inside : (c : Call) → TextInside c (l .leaves string c) (numbers string (l .returns string c))
+  pub curve-inside : (walk : Walk) (c : Call) (words : List ℕ) (consumed : ℕ) → says l (trc walk) c ≡ Curve·Answer.value words consumed → (dataEnd words ≤ length (curveTag c)) × (c .entry + c .size ≤ length (c .profile))
+  pub text-inside : (c : Call) → TextInside c (l .leaves string c) (says l string c)
   pub fields-inside : (s : Small) (c : Call) → ends l (small s) c ≡ value → FieldsInside s c
 
 -- ---- demand 2, its proved half
@@ -125,7 +125,7 @@ pub record CurveAs (walk : Walk) (limit : ℕ) (t words : List ℕ) (consumed : 
 
 -- an `mAB ` or `mBA ` that has this colour table and these curves is answered so, and its records stand in front of the slots
 pub record AbmSaid (l : Library) (c : Call) (table : Table) (curves : List Placed) : Type 0 where
-  pub answer-is : numbers (lut Book) (l .returns (lut Book) c) ≡ valueFrom (tag c) (table .start) (lengthOf table) (table .size)
+  pub answer-is : says l (lut Book) c ≡ valueFrom (tag c) (table .start) (lengthOf table) (table .size)
   pub slots-are : l .leaves (lut Book) c ≡ recordsOf curves ++ drop (length (recordsOf curves)) (c .slots)
 
 pub record AbmAs (l : Library) (c : Call) : Type 0 where
@@ -139,12 +139,12 @@ pub record AbmAs (l : Library) (c : Call) : Type 0 where
 
 -- an `mft1` or `mft2` is answered as its tag has it
 pub record MftSaid (l : Library) (walk : Walk) (c : Call) : Type 0 where
-  pub fields-are : numbers (lut walk) (l .returns (lut walk) c) .state ≡ mft (fieldsOf (tag c))
-  pub matrix-is : numbers (lut walk) (l .returns (lut walk) c) .matrix ≡ Mft·matrixOf (tag c)
+  pub fields-are : says l (lut walk) c .state ≡ mft (fieldsOf (tag c))
+  pub matrix-is : says l (lut walk) c .matrix ≡ Mft·matrixOf (tag c)
 
 -- `mluc` is answered with these records
 pub record MlucSaid (l : Library) (c : Call) (rs : List Localized) : Type 0 where
-  pub answer-is : numbers string (l .returns string c) ≡ Text·Answer.mluc (length rs)
+  pub answer-is : says l string c ≡ Text·Answer.mluc (length rs)
   pub slots-are : l .leaves string c ≡ wordsIn rs ++ drop (length (wordsIn rs)) (c .slots)
 
 pub record MlucAs (l : Library) (c : Call) : Type 0 where
@@ -201,27 +201,29 @@ pub record Demand2 (l : Library) : Type 0 where
   -- one call, one answer
   pub once : (r : Reader) (c : Call) (x : Result r) → numbers r x ≡ meaning r c → x ≡ l .returns r c
   -- curveType and parametricCurveType
-  pub curve-accepted : (walk : Walk) (c : Call) (s : Shape) → c .entry + 4 ≤ length (c .profile) → c .entry + c .size ≤ length (c .profile) → (c .size ≡ 0) ⊎ (12 ≤ c .size) → CurveLaid (curveTag c) s → CurveWithin (c .entries) s → numbers (trc walk) (l .returns (trc walk) c) ≡ Curve·Answer.value (wordsOf 12 s) (stepOf walk s)
-  pub curve-laid : (walk : Walk) (c : Call) (words : List ℕ) (consumed : ℕ) → numbers (trc walk) (l .returns (trc walk) c) ≡ Curve·Answer.value words consumed → CurveAs walk (c .entries) (curveTag c) words consumed
+  pub curve-accepted : (walk : Walk) (c : Call) (s : Shape) → c .entry + 4 ≤ length (c .profile) → c .entry + c .size ≤ length (c .profile) → (c .size ≡ 0) ⊎ (12 ≤ c .size) → CurveLaid (curveTag c) s → CurveWithin (c .entries) s → says l (trc walk) c ≡ Curve·Answer.value (wordsOf 12 s) (stepOf walk s)
+  pub curve-laid : (walk : Walk) (c : Call) (words : List ℕ) (consumed : ℕ) → says l (trc walk) c ≡ Curve·Answer.value words consumed → CurveAs walk (c .entries) (curveTag c) words consumed
   -- lutAToBType and lutBToAType, on the book walk
   pub abm-accepted : (c : Call) (table : Table) (a m b : List Placed) → TagInside c → AbmLaidOut (tag c) table a m b → AbmAsked (c .entries) (tag c) table a m b → recordsNeeded (tag c) ≤ length (c .slots) / recordWords → AbmSaid l c table (a ++ m ++ b)
-  pub abm-laid : (c : Call) (f : Abm) → numbers (lut Book) (l .returns (lut Book) c) .state ≡ abm f → AbmAs l c
+  pub abm-laid : (c : Call) (f : Abm) → says l (lut Book) c .state ≡ abm f → AbmAs l c
+  -- on either walk the number of records is the channels of the runs that are there
+  pub abm-counts : (walk : Walk) (c : Call) (f : Abm) → says l (lut walk) c .state ≡ abm f → (f .a ≡ aCurves (tag c)) × (f .m ≡ mCurves (tag c)) × (f .b ≡ bCurves (tag c))
   -- lut8Type and lut16Type
   pub mft-accepted : (walk : Walk) (c : Call) → TagInside c → MftLaidOut (tag c) → MftAsked (c .points) (tag c) → MftSaid l walk c
-  pub mft-laid : (walk : Walk) (c : Call) (f : Fields) → numbers (lut walk) (l .returns (lut walk) c) .state ≡ mft f → MftLaidOut (tag c) × MftAsked (c .points) (tag c) × MftSaid l walk c
+  pub mft-laid : (walk : Walk) (c : Call) (f : Fields) → says l (lut walk) c .state ≡ mft f → MftLaidOut (tag c) × MftAsked (c .points) (tag c) × MftSaid l walk c
   -- textType, textDescriptionType and multiLocalizedUnicodeType; what is taken besides stands in text/specs/Standard.antt
-  pub text-accepted : (c : Call) (n : ℕ) → TagInside c → TextType (tag c) n → numbers string (l .returns string c) ≡ Text·Answer.text (span textStart n)
-  pub text-taken : (c : Call) (s : Span) → numbers string (l .returns string c) ≡ Text·Answer.text s → TextTaken (tag c) s
-  pub desc-accepted : (c : Call) (n m : ℕ) → TagInside c → TextDescriptionType (tag c) n m → let at : ℕ = asciiEnd (tag c) in numbers string (l .returns string c) ≡ Text·Answer.desc (span asciiStart n) record { language = unicodeLanguage (tag c) at; string = unicodeRange (tag c) at m }
-  pub desc-taken : (c : Call) (s : Span) (u : Unicode) → numbers string (l .returns string c) ≡ Text·Answer.desc s u → DescriptionTaken (tag c) s u
+  pub text-accepted : (c : Call) (n : ℕ) → TagInside c → TextType (tag c) n → says l string c ≡ Text·Answer.text (span textStart n)
+  pub text-taken : (c : Call) (s : Span) → says l string c ≡ Text·Answer.text s → TextTaken (tag c) s
+  pub desc-accepted : (c : Call) (n m : ℕ) → TagInside c → TextDescriptionType (tag c) n m → let at : ℕ = asciiEnd (tag c) in says l string c ≡ Text·Answer.desc (span asciiStart n) record { language = unicodeLanguage (tag c) at; string = unicodeRange (tag c) at m }
+  pub desc-taken : (c : Call) (s : Span) (u : Unicode) → says l string c ≡ Text·Answer.desc s u → DescriptionTaken (tag c) s u
   pub mluc-accepted : (c : Call) (rs : List Localized) → TagInside c → MultiLocalizedUnicodeType (tag c) rs → length rs ≤ length (c .slots) / textWords → MlucSaid l c rs
-  pub mluc-taken : (c : Call) (n : ℕ) → numbers string (l .returns string c) ≡ Text·Answer.mluc n → MlucAs l c
+  pub mluc-taken : (c : Call) (n : ℕ) → says l string c ≡ Text·Answer.mluc n → MlucAs l c
   -- the types of the small readers
-  pub small-accepted : (s : Small) (c : Call) → Accepts (λ p entry size. numbers (small s) (l .returns (small s) (ofTag c p entry size))) (Layout s) (Asked s)
-  pub small-laid : (s : Small) (c : Call) → AcceptsOnly (λ p entry size. numbers (small s) (l .returns (small s) (ofTag c p entry size))) (Layout s) (AskedBack s)
+  pub small-accepted : (s : Small) (c : Call) → Accepts (λ p entry size. says l (small s) (ofTag c p entry size)) (Layout s) (Asked s)
+  pub small-laid : (s : Small) (c : Call) → AcceptsOnly (λ p entry size. says l (small s) (ofTag c p entry size)) (Layout s) (AskedBack s)
   -- the view of an accepted lookup table; offsets and sizes are 32-bit values
-  pub abm-shown : (walk : Walk) (c : Call) (f : Abm) → c .size < 2 ^ 32 → let a = numbers (lut walk) (l .returns (lut walk) c) in a .state ≡ abm f → 1 ≤ f .size → Shows l (tag c) (numbersOf (abm f)) (Abm·toldTable (a .grid) f) (f .bytes)
-  pub mft-shown : (walk : Walk) (c : Call) (f : Fields) → c .size < 2 ^ 32 → numbers (lut walk) (l .returns (lut walk) c) .state ≡ mft f → Shows l (tag c) (numbersOf (mft f)) (Mft·toldTable f) (f .clutBytes)
+  pub abm-shown : (walk : Walk) (c : Call) (f : Abm) → c .size < 2 ^ 32 → says l (lut walk) c .state ≡ abm f → 1 ≤ f .size → Shows l (tag c) (numbersOf (abm f)) (Abm·toldTable (says l (lut walk) c .grid) f) (f .bytes)
+  pub mft-shown : (walk : Walk) (c : Call) (f : Fields) → c .size < 2 ^ 32 → says l (lut walk) c .state ≡ mft f → Shows l (tag c) (numbersOf (mft f)) (Mft·toldTable f) (f .clutBytes)
   -- any view: what is not valid is absent, and the entries stand in the standard's order
   pub not-shown : (t : List ℕ) (n : TableNumbers) (index : List ℕ) (channel : ℕ) → inGrid (tableBy t n .grid) index && ltb channel (n .outputs) ≡ false → Table·paper (l .reads t n index channel) ≡ Told.absent
   pub in-order : (table : Table) (xs ys : List ℕ) (x y : ℕ) → Valid table xs x → Valid table ys y → Before xs ys → numberOf table xs x < numberOf table ys y
@@ -240,6 +242,10 @@ raised entries points c =
 abbrev pub lent : List ℕ → Call → Call
 lent x c =
     record { profile = c .profile; entry = c .entry; size = c .size; entries = c .entries; points = c .points; slots = c .slots ++ x }
+
+-- with all three
+abbrev pub given : List ℕ → ℕ → ℕ → List ℕ → Call → Call
+given q entries points x c = lent x (raised entries points (appended q c))
 
 -- the call d is answered as c, every field, range and record; words x that it was lent besides stay
 pub record Same (l : Library) (r : Reader) (c d : Call) (x : List ℕ) : Type 0 where
@@ -274,7 +280,7 @@ pub record Demand3 (l : Library) : Type 0 where
   pub limits : (r : Reader) (c : Call) (entries points : ℕ) → c .entries ≤ entries → c .points ≤ points → ByLimits (ends l r c) ⊎ Same l r c (raised entries points c) []
   pub slots : (r : Reader) (c : Call) (x : List ℕ) → BySlots (ends l r c) ⊎ Same l r c (lent x c) x
   -- together
-  pub all : (r : Reader) (c : Call) (q : List ℕ) (entries points : ℕ) (x : List ℕ) → c .entries ≤ entries → c .points ≤ points → (ByBytes r c (ends l r c) ⊎ ByLimits (ends l r c) ⊎ BySlots (ends l r c)) ⊎ Same l r c (lent x (raised entries points (appended q c))) x
+  pub all : (r : Reader) (c : Call) (q : List ℕ) (entries points : ℕ) (x : List ℕ) → c .entries ≤ entries → c .points ≤ points → (ByBytes r c (ends l r c) ⊎ ByLimits (ends l r c) ⊎ BySlots (ends l r c)) ⊎ Same l r c (given q entries points x c) x
   -- so a value stays, and a default
-  pub value-stays : (r : Reader) (c : Call) (q : List ℕ) (entries points : ℕ) (x : List ℕ) → c .entries ≤ entries → c .points ≤ points → ends l r c ≡ value → Same l r c (lent x (raised entries points (appended q c))) x
-  pub default-stays : (r : Reader) (c : Call) (q : List ℕ) (entries points : ℕ) (x : List ℕ) → c .entries ≤ entries → c .points ≤ points → ends l r c ≡ default → Same l r c (lent x (raised entries points (appended q c))) x
+  pub value-stays : (r : Reader) (c : Call) (q : List ℕ) (entries points : ℕ) (x : List ℕ) → c .entries ≤ entries → c .points ≤ points → ends l r c ≡ value → Same l r c (given q entries points x c) x
+  pub default-stays : (r : Reader) (c : Call) (q : List ℕ) (entries points : ℕ) (x : List ℕ) → c .entries ≤ entries → c .points ≤ points → ends l r c ≡ default → Same l r c (given q entries points x c) x

@@ -164,12 +164,15 @@ pub record Library : Type 0 where
   pub leaves : Reader → Call → List ℕ
   pub reads : List ℕ → TableNumbers → List ℕ → ℕ → EntryAnswer
 
--- how a call ends
+-- what a call is answered with, in numbers, and how it ends
+abbrev pub says : Library → (r : Reader) → Call → Numbers r
+says l r c = numbers r (l .returns r c)
+
 abbrev pub ends : Library → Reader → Call → Outcome
-ends l r c = outcome r (numbers r (l .returns r c))
+ends l r c = outcome r (says l r c)
 
 -- the library keeps the contracts of the readers, as they stand in the source, and of `table::entry_at`
 pub record Promised (l : Library) : Type 0 where
-  pub answers : (r : Reader) (c : Call) → numbers r (l .returns r c) ≡ meaning r c
+  pub answers : (r : Reader) (c : Call) → says l r c ≡ meaning r c
   pub leaves-so : (r : Reader) (c : Call) → l .leaves r c ≡ left r c
   pub reads-so : (t : List ℕ) (n : TableNumbers) (index : List ℕ) (channel : ℕ) → Table·paper (l .reads t n index channel) ≡ entryOf t (tableBy t n) index channel
