@@ -4,6 +4,7 @@ ghost use mathlib.Core.Path.{_≡_};
 ghost use Prim.Native.Nat.{_+_, _≤_};
 ghost use lib.ListN.{length, getD};
 ghost use Rattle.fields.specs.Bytes.{number, u16At, u32At, wordsAt};
+ghost use Rattle.fields.specs.House.{houseLimits};
 ghost use Rattle.fields.specs.Place.{placeOf, countedSize};
 ghost use Rattle.fields.specs.Refusals.{numberOf};
 ghost use Rattle.fields.specs.Tag.{kindOf};
@@ -16,6 +17,12 @@ pub const MAX_ALLOWED_TRC_SIZE: u64 = 4_096;
 
 // House default: the grid points that a colour table of `mft1` or `mft2` may have.
 pub const MAX_ALLOWED_CLUT_SIZE: u64 = 1_000_000;
+
+// Limits of curve entries and of grid points.
+pub struct Limits {
+    pub entries: u64,
+    pub points: u64,
+}
 
 // An offset from the profile's first byte, as the tag table has it.
 pub struct Entry(pub u32);
@@ -183,6 +190,16 @@ pub fn counted_size(size: u32) -> u32
     ensures { λ r. ⌜ r ≡ countedSize size ⌝ }
 {
     if size == 0 { TAG_SIZE } else { size }
+}
+
+// Both house defaults.
+pub fn house_limits() -> Limits
+    ensures { λ r. ⌜ r ≡ houseLimits ⌝ }
+{
+    Limits {
+        entries: MAX_ALLOWED_TRC_SIZE,
+        points: MAX_ALLOWED_CLUT_SIZE,
+    }
 }
 
 // The byte `k` behind `at`, and 0 past the end.

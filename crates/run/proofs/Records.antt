@@ -12,7 +12,7 @@ use Rattle.run.specs.Run.{Placed, endOf, recordWords, recordsOf, dataEnd
 use Rattle.run.proofs.Writing.{words-length}
 
 -- of the words in front of a list
-words-end : (at : ℕ) (s : Shape) (rest : List ℕ) → dataEnd (wordsOf (at + 12) s ++ rest) ≡ at + sizeOf s
+pub words-end : (at : ℕ) (s : Shape) (rest : List ℕ) → dataEnd (wordsOf (at + 12) s ++ rest) ≡ at + sizeOf s
 unfolding wordsOf sizeOf
 words-end at empty rest = omega arith
 words-end at (table n) rest = omega arith

@@ -1,0 +1,251 @@
+-- Demand 3 of every library that keeps the contracts: bytes, limits and slots each alone, along the readers' own theorems, then together.
+-- Assumes nothing.
+use Prim.Native.Nat.{ℕ, _+_, _/_, _≤_}
+use native.Mathlib.Omega.{arith}
+use mathlib.Core.Path.{_≡_, refl, sym, ap, subst, _∙_}
+use mathlib.Core.List.{List, [], _++_, append-nil, append-assoc}
+use mathlib.Core.Logic.{_⊎_, inl, inr}
+use lib.Dec.{ltb, eqb}
+use lib.ListN.{length, drop, length-append}
+use lib.Seq.{drop-append-le}
+use borrow.Author.Tests.{ltb-false}
+use Rattle.fields.specs.Bytes.{u32At}
+use Rattle.fields.specs.Place.{countedSize}
+use Rattle.fields.specs.Tag.{signatureOf}
+use Rattle.fields.specs.declared.Kind.the-variants.{Text, Mluc, Desc}
+use Rattle.fields.proofs.Choice.{each}
+use Rattle.fields.proofs.Grow.{Grows}
+use Rattle.curve.specs.declared.Walk.{Walk}
+use Rattle.curve.proofs.More.{short, more-bytes as curve-bytes, more-limit as curve-limit}
+use Rattle.lut_meaning.specs.Answer.{State, mft, abm, absent as State·absent, refused as State·refused}
+use Rattle.lut_meaning.proofs.Accepted.{IsValue}
+use Rattle.lut_meaning.proofs.More.{more-bytes as lut-bytes, more-limits as lut-limits, more-slots as lut-slots, value-stays as lut-stays}
+use Rattle.small_meaning.proofs.More.{Past, chad-more, sig-more, date-more, meas-more, view-more, xyz-more, cicp-more}
+use Rattle.text_meaning.specs.Answer.{Answer as Text·Answer, leftBy as Text·leftBy}
+use Rattle.text_meaning.specs.Layout.{asciiEnd}
+use Rattle.text_meaning.specs.Mluc.{End, whole, stopped, header, string as string-fault, recordsIn, recordsAsked, wordsIn, recordWords as textWords}
+use Rattle.text_meaning.specs.Text.{textOf, descOf, slottedOf, endedBy, mlucOf, byType, stringOf, tagOf as Text·tagOf}
+use Rattle.text_meaning.proofs.Conforms.{Taken, accepted}
+use Rattle.text_meaning.proofs.Found.{Value}
+use Rattle.text_meaning.proofs.More.{more-bytes as text-bytes, more-slots as text-slots, value-stays as text-stays}
+use Rattle.text_meaning.proofs.Shared.{words-length}
+use Rattle.demands.specs.Readers.{Small, chad, sig, date, meas, view, xyz, cicp, Reader, lut, trc, string, small, Call, smallOf, meaning, left, Outcome, value, default, absent, refused, outcome, lutOutcome, curveOutcome, smallOutcome, textOutcome, Library, ends, Promised}
+use Rattle.demands.specs.Demands.{tag, appended, raised, lent, Same, ByBytes, ByLimits, BySlots, Demand3, given}
+use Rattle.demands.proofs.Ends.{Spares, left-spared, ends-so}
+use Rattle.demands.proofs.Second.{unique}
+
+-- ---- the meanings: what is said stays, or is of the kind that may change
+
+small-grows : (s : Small) (p q : List ℕ) (entry size : ℕ) → Grows Past (smallOf s p entry size) (smallOf s (p ++ q) entry size)
+small-grows chad = chad-more
+small-grows sig = sig-more
+small-grows date = date-more
+small-grows meas = meas-more
+small-grows view = view-more
+small-grows xyz = xyz-more
+small-grows cicp = cicp-more
+
+by-bytes : (r : Reader) (c : Call) (q : List ℕ) → ByBytes r c (outcome r (meaning r c)) ⊎ (meaning r (appended q c) ≡ meaning r c)
+by-bytes (lut walk) c q = elim (lut-bytes walk (c .entries) (c .points) (c .profile) q (c .entry) (c .size) (length (c .slots))) [
+  | inl e ↦ inl (inl (ap lutOutcome e))
+  | inr e ↦ inr e
+]
+by-bytes (trc walk) c q = elim (curve-bytes walk (c .entries) (c .profile) q (c .entry) (c .size)) [
+  | inl s ↦ inl (inr (refl, ap curveOutcome (short walk (c .entries) (c .profile) (c .entry) (c .size) s), s))
+  | inr (inl e) ↦ inl (inl (ap curveOutcome e))
+  | inr (inr e) ↦ inr e
+]
+by-bytes string c q = elim (text-bytes (c .profile) q (c .entry) (c .size) (length (c .slots))) [
+  | inl e ↦ inl (inl (ap textOutcome e))
+  | inr e ↦ inr e
+]
+by-bytes (small s) c q = elim (small-grows s (c .profile) q (c .entry) (c .size)) [
+  | inl e ↦ inl (inl (ap smallOutcome e))
+  | inr e ↦ inr e
+]
+
+by-limits : (r : Reader) (c : Call) (entries points : ℕ) → c .entries ≤ entries → c .points ≤ points → ByLimits (outcome r (meaning r c)) ⊎ (meaning r (raised entries points c) ≡ meaning r c)
+by-limits (lut walk) c entries points h k = elim (lut-limits walk (c .entries) entries h (c .points) points k (c .profile) (c .entry) (c .size) (length (c .slots))) [
+  | inl (inl e) ↦ inl (inl (ap lutOutcome e))
+  | inl (inr e) ↦ inl (inr (ap lutOutcome e))
+  | inr e ↦ inr e
+]
+by-limits (trc walk) c entries points h k = elim (curve-limit walk (c .entries) entries (c .profile) (c .entry) (c .size) h) [
+  | inl e ↦ inl (inl (ap curveOutcome e))
+  | inr e ↦ inr e
+]
+by-limits string c entries points h k = inr refl
+by-limits (small s) c entries points h k = inr refl
+
+more-room : (s x : List ℕ) → length s ≤ length (s ++ x)
+more-room s x = simp length-append (omega arith)
+
+by-slots : (r : Reader) (c : Call) (x : List ℕ) → BySlots (outcome r (meaning r c)) ⊎ (meaning r (lent x c) ≡ meaning r c)
+by-slots (lut walk) c x = elim (lut-slots walk (c .entries) (c .points) (length (c .slots)) (length (c .slots ++ x)) (more-room (c .slots) x) (c .profile) (c .entry) (c .size)) [
+  | inl e ↦ inl (ap lutOutcome e)
+  | inr e ↦ inr e
+]
+by-slots (trc walk) c x = inr refl
+by-slots string c x = elim (text-slots (length (c .slots)) (length (c .slots ++ x)) (more-room (c .slots) x) (c .profile) (c .entry) (c .size)) [
+  | inl e ↦ inl (ap textOutcome e)
+  | inr e ↦ inr e
+]
+by-slots (small s) c x = inr refl
+
+-- ---- the slots
+
+-- the records of `mluc` have room
+module _ (p : List ℕ) (entry size words : ℕ) where
+  abbrev Room : Text·Answer → Type 0
+  Room a = (n : ℕ) → a ≡ Text·Answer.mluc n → n ≤ words / textWords
+
+  ended-room : (x : End) (n : ℕ) → Room (endedBy x (slottedOf n words))
+  unfolding slottedOf
+  ended-room whole n =
+      each Room (ltb (words / textWords) n) _ _ (λ _ m e. let z : _≡_ {A = ℕ} 0 1 = cc in absurd (omega arith))
+      (λ l m e. let same : n ≡ m = cc in omega (arith, ltb-false (words / textWords) n l))
+  ended-room (stopped header) n = λ m e. let z : _≡_ {A = ℕ} 0 1 = cc in absurd (omega arith)
+  ended-room (stopped string-fault) n = λ m e. let z : _≡_ {A = ℕ} 0 1 = cc in absurd (omega arith)
+
+  string-room : Room (stringOf p entry size words)
+  unfolding stringOf byType textOf mlucOf descOf
+  string-room =
+      let t : List ℕ = Text·tagOf p entry size in
+      let past : (n : ℕ) → Room (Text·Answer.refused n) = λ n m e. let z : _≡_ {A = ℕ} 0 1 = cc in absurd (omega arith) in
+      let no : Room Text·Answer.absent = λ m e. let z : _≡_ {A = ℕ} 0 1 = cc in absurd (omega arith) in
+      each Room (ltb (countedSize size) 4) _ _ (λ _. no)
+      (λ _. each Room (ltb (length p) (entry + countedSize size)) _ _ (λ _. past 1)
+      (λ _. each Room (ltb (countedSize size) 8) _ _ (λ _. no)
+      (λ _. each Room (eqb (u32At t 0) (signatureOf Text)) _ _ (λ _ m e. let z : _≡_ {A = ℕ} 0 1 = cc in absurd (omega arith))
+      (λ _. each Room (eqb (u32At t 0) (signatureOf Mluc)) _ _ (λ _. ended-room (recordsIn t .end) (recordsAsked t))
+      (λ _. each Room (eqb (u32At t 0) (signatureOf Desc)) _ _
+      (λ _. each Room (ltb (length t) 12) _ _ (λ _. past 2)
+      (λ _. each Room (ltb (length t) (asciiEnd t)) _ _ (λ _. past 2) (λ _ m e. let z : _≡_ {A = ℕ} 0 1 = cc in absurd (omega arith))))
+      (λ _. no))))))
+
+-- of a value every word is left as before, and those lent besides stay
+lut-left : (walk : Walk) (c : Call) (q : List ℕ) (entries points : ℕ) (x : List ℕ) → c .entries ≤ entries → c .points ≤ points → outcome (lut walk) (meaning (lut walk) c) ≡ value → left (lut walk) (given q entries points x c) ≡ left (lut walk) c ++ x
+unfolding IsValue
+lut-left walk c q entries points x h k v =
+    lut-stays walk (c .entries) entries h (c .points) points k (c .profile) q (c .entry) (c .size) (c .slots) x (by (meaning (lut walk) c .state) v) .slots-stay
+  where
+    by : (s : State) → lutOutcome s ≡ value → IsValue s
+    by (mft f) e = tt
+    by (abm f) e = tt
+    by State·absent e = let z : _≡_ {A = ℕ} 0 1 = cc in absurd (omega arith)
+    by (State·refused n) e = let z : _≡_ {A = ℕ} 0 1 = cc in absurd (omega arith)
+
+is-value : (a : Text·Answer) → textOutcome a ≡ value → Value a
+is-value (Text·Answer.text s) e = tt
+is-value (Text·Answer.desc s u) e = tt
+is-value (Text·Answer.mluc n) e = tt
+is-value Text·Answer.absent e = let z : _≡_ {A = ℕ} 0 1 = cc in absurd (omega arith)
+is-value (Text·Answer.refused n) e = let z : _≡_ {A = ℕ} 0 1 = cc in absurd (omega arith)
+
+text-left : (c : Call) (q x : List ℕ) → outcome string (meaning string c) ≡ value → left string (lent x (appended q c)) ≡ left string c ++ x
+text-left c q x v =
+    let h = text-stays (c .profile) q (c .entry) (c .size) (length (c .slots)) (length (c .slots ++ x)) (more-room (c .slots) x) (is-value (meaning string c) v) in
+    rw (h .answer-stays, h .records-stay) (by (meaning string c) refl)
+  where
+    by : (a : Text·Answer) → meaning string c ≡ a → let ws : List ℕ = wordsIn (recordsIn (tag c) .records) in Text·leftBy a ws (c .slots ++ x) ≡ Text·leftBy a ws (c .slots) ++ x
+    by (Text·Answer.text s) e = refl
+    by (Text·Answer.desc s u) e = refl
+    by (Text·Answer.mluc n) e =
+        let ws : List ℕ = wordsIn (recordsIn (tag c) .records) in
+        let taken : Taken (tag c) (Text·Answer.mluc n) = subst (Taken (tag c)) e (accepted (c .profile) (c .entry) (c .size) (length (c .slots)) (is-value (meaning string c) v) .laid) in
+        let fits : length ws ≤ length (c .slots) = omega (arith, words-length (recordsIn (tag c) .records), taken .count-is, string-room (c .profile) (c .entry) (c .size) (length (c .slots)) n e) in
+        rw (drop-append-le (length ws) (c .slots) x fits) (sym (append-assoc ws (drop (length ws) (c .slots)) x))
+    by Text·Answer.absent e = refl
+    by (Text·Answer.refused n) e = refl
+
+left-grows : (r : Reader) (c : Call) (q : List ℕ) (entries points : ℕ) (x : List ℕ) → c .entries ≤ entries → c .points ≤ points → outcome r (meaning r c) ≡ value → left r (given q entries points x c) ≡ left r c ++ x
+left-grows (lut walk) c q entries points x h k v = lut-left walk c q entries points x h k v
+left-grows (trc walk) c q entries points x h k v = refl
+left-grows string c q entries points x h k v = text-left c q x v
+left-grows (small s) c q entries points x h k v = refl
+
+-- where the same is said, the slots are left the same: a value's as above, and all others as they were lent
+left-stays : (r : Reader) (c : Call) (q : List ℕ) (entries points : ℕ) (x : List ℕ) → c .entries ≤ entries → c .points ≤ points → meaning r (given q entries points x c) ≡ meaning r c → left r (given q entries points x c) ≡ left r c ++ x
+left-stays r c q entries points x h k e = by (outcome r (meaning r c)) refl
+  where
+    spared : Spares (outcome r (meaning r c)) → left r (given q entries points x c) ≡ left r c ++ x
+    spared s =
+        left-spared r (given q entries points x c) (subst Spares (ap (outcome r) (sym e)) s) ∙ ap (λ (w : List ℕ). w ++ x) (sym (left-spared r c s))
+
+    by : (o : Outcome) → outcome r (meaning r c) ≡ o → left r (given q entries points x c) ≡ left r c ++ x
+    by value f = left-grows r c q entries points x h k f
+    by default f = spared (subst Spares (sym f) tt)
+    by absent f = spared (subst Spares (sym f) tt)
+    by (refused n) f = spared (subst Spares (sym f) tt)
+
+-- ---- of a library that keeps the contracts
+
+-- a value and a default are not of the kind that may change
+fixed : (r : Reader) (c : Call) (o : Outcome) → (o ≡ absent → ⊥) → ((n : ℕ) → o ≡ refused n → ⊥) → ByBytes r c o ⊎ ByLimits o ⊎ BySlots o → ⊥
+fixed r c o a b (inl (inl e)) = b _ e
+fixed r c o a b (inl (inr e)) = a (e .1)
+fixed r c o a b (inr (inl (inl e))) = b _ e
+fixed r c o a b (inr (inl (inr e))) = b _ e
+fixed r c o a b (inr (inr e)) = b _ e
+
+module _ (l : Library) (p : Promised l) where
+  same : (r : Reader) (c d : Call) (x : List ℕ) → meaning r d ≡ meaning r c → left r d ≡ left r c ++ x → Same l r c d x
+  same r c d x e f =
+      record {
+        result = unique r (meaning r c) (l .returns r d) (l .returns r c) (p .answers r d ∙ e) (p .answers r c);
+        slots = p .leaves-so r d ∙ f ∙ ap (λ (w : List ℕ). w ++ x) (sym (p .leaves-so r c));
+      }
+
+  -- a call that is given all three is one that is given some, if the others are none
+  alone : (r : Reader) (c d : Call) (q : List ℕ) (entries points : ℕ) (x : List ℕ) → c .entries ≤ entries → c .points ≤ points → given q entries points x c ≡ d → meaning r d ≡ meaning r c → Same l r c d x
+  alone r c d q entries points x h k e f = same r c d x f (sym (ap (left r) e) ∙ left-stays r c q entries points x h k (ap (meaning r) e ∙ f))
+
+  bytes : (r : Reader) (c : Call) (q : List ℕ) → ByBytes r c (ends l r c) ⊎ Same l r c (appended q c) []
+  bytes r c q = elim (by-bytes r c q) [
+    | inl e ↦ inl (subst (ByBytes r c) (sym (ends-so l p r c)) e)
+    | inr e ↦ inr (alone r c (appended q c) q (c .entries) (c .points) [] (omega arith) (omega arith) (λ i. record { profile = c .profile ++ q; entry = c .entry; size = c .size; entries = c .entries; points = c .points; slots = append-nil (c .slots) i }) e)
+  ]
+
+  limits : (r : Reader) (c : Call) (entries points : ℕ) → c .entries ≤ entries → c .points ≤ points → ByLimits (ends l r c) ⊎ Same l r c (raised entries points c) []
+  limits r c entries points h k = elim (by-limits r c entries points h k) [
+    | inl e ↦ inl (subst ByLimits (sym (ends-so l p r c)) e)
+    | inr e ↦ inr (alone r c (raised entries points c) [] entries points [] h k (λ i. record { profile = append-nil (c .profile) i; entry = c .entry; size = c .size; entries = entries; points = points; slots = append-nil (c .slots) i }) e)
+  ]
+
+  slots : (r : Reader) (c : Call) (x : List ℕ) → BySlots (ends l r c) ⊎ Same l r c (lent x c) x
+  slots r c x = elim (by-slots r c x) [
+    | inl e ↦ inl (subst BySlots (sym (ends-so l p r c)) e)
+    | inr e ↦ inr (alone r c (lent x c) [] (c .entries) (c .points) x (omega arith) (omega arith) (λ i. record { profile = append-nil (c .profile) i; entry = c .entry; size = c .size; entries = c .entries; points = c .points; slots = c .slots ++ x }) e)
+  ]
+
+  all : (r : Reader) (c : Call) (q : List ℕ) (entries points : ℕ) (x : List ℕ) → c .entries ≤ entries → c .points ≤ points → (ByBytes r c (ends l r c) ⊎ ByLimits (ends l r c) ⊎ BySlots (ends l r c)) ⊎ Same l r c (given q entries points x c) x
+  all r c q entries points x h k =
+      let said = sym (ends-so l p r c) in
+      elim (by-bytes r c q) [
+        | inl e ↦ inl (inl (subst (ByBytes r c) said e))
+        | inr e ↦ elim (by-limits r (appended q c) entries points h k) [
+          | inl f ↦ inl (inr (inl (subst ByLimits (ap (outcome r) e ∙ said) f)))
+          | inr f ↦ elim (by-slots r (raised entries points (appended q c)) x) [
+            | inl g ↦ inl (inr (inr (subst BySlots (ap (outcome r) (f ∙ e) ∙ said) g)))
+            | inr g ↦ inr (alone r c _ q entries points x h k refl (g ∙ f ∙ e))
+          ]
+        ]
+      ]
+
+  -- what is not of the kind that may change stays
+  stays : (r : Reader) (c : Call) (q : List ℕ) (entries points : ℕ) (x : List ℕ) → c .entries ≤ entries → c .points ≤ points → (ends l r c ≡ absent → ⊥) → ((n : ℕ) → ends l r c ≡ refused n → ⊥) → Same l r c (given q entries points x c) x
+  stays r c q entries points x h k a b = elim (all r c q entries points x h k) [
+    | inl e ↦ absurd (fixed r c (ends l r c) a b e)
+    | inr s ↦ s
+  ]
+
+  pub demand3 : Demand3 l
+  demand3 =
+      record {
+        bytes = bytes;
+        limits = limits;
+        slots = slots;
+        all = all;
+        value-stays = λ r c q entries points x h k e. stays r c q entries points x h k (λ f. let z : _≡_ {A = ℕ} 0 1 = cc in absurd (omega arith)) (λ n f. let z : _≡_ {A = ℕ} 0 1 = cc in absurd (omega arith));
+        default-stays = λ r c q entries points x h k e. stays r c q entries points x h k (λ f. let z : _≡_ {A = ℕ} 0 1 = cc in absurd (omega arith)) (λ n f. let z : _≡_ {A = ℕ} 0 1 = cc in absurd (omega arith));
+      }

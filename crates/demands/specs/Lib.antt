@@ -1,0 +1,4 @@
+pub mod Readers
+pub mod Demands
+pub mod Cases
+pub mod Wrong

@@ -1,0 +1,178 @@
+-- Every reader, what a call of one is, and what its contract promises.
+use Prim.Native.Nat.{ℕ}
+use mathlib.Core.Path.{_≡_}
+use mathlib.Core.List.{List}
+use lib.ListN.{length}
+use Rattle.curve.specs.Answer.{Answer as Curve·Answer, paper as Curve·paper}
+use Rattle.curve.specs.Curve.{trcOf}
+use Rattle.curve.specs.declared.CurveAnswer.{CurveAnswer}
+use Rattle.curve.specs.declared.Walk.{Walk}
+use Rattle.run.specs.Run.{recordsOf}
+use Rattle.lut_meaning.specs.Answer.{State, Answer as Lut·Answer, paper as Lut·paper, leftBy as Lut·leftBy}
+use Rattle.lut_meaning.specs.Layout.{planOf}
+use Rattle.lut_meaning.specs.Lut.{lutOf, tagOf as Lut·tagOf}
+use Rattle.lut_meaning.specs.Parts.{curvesOf}
+use Rattle.lut_meaning.specs.declared.Lut.{Lut}
+use Rattle.text_meaning.specs.Answer.{Answer as Text·Answer, paper as Text·paper, leftBy as Text·leftBy}
+use Rattle.text_meaning.specs.Mluc.{recordsIn, wordsIn}
+use Rattle.text_meaning.specs.Text.{stringOf, tagOf as Text·tagOf}
+use Rattle.text_meaning.specs.declared.TextAnswer.{TextAnswer}
+use Rattle.small_meaning.specs.Answer.{Answer as Small·Answer, paperChad, paperSig, paperDate, paperMeas, paperView, paperXyz, paperCicp}
+use Rattle.small_meaning.specs.Small.{chadOf, sigOf, dateOf, measOf, viewOf, xyzOf, cicpOf}
+use Rattle.small_meaning.specs.declared.ChadAnswer.{ChadAnswer}
+use Rattle.small_meaning.specs.declared.CicpAnswer.{CicpAnswer}
+use Rattle.small_meaning.specs.declared.DateAnswer.{DateAnswer}
+use Rattle.small_meaning.specs.declared.MeasAnswer.{MeasAnswer}
+use Rattle.small_meaning.specs.declared.SigAnswer.{SigAnswer}
+use Rattle.small_meaning.specs.declared.ViewAnswer.{ViewAnswer}
+use Rattle.small_meaning.specs.declared.XyzAnswer.{XyzAnswer}
+use Rattle.table.specs.Answer.{paper as Table·paper}
+use Rattle.table.specs.View.{tableBy, entryOf}
+use Rattle.table.specs.declared.EntryAnswer.{EntryAnswer}
+use Rattle.table.specs.declared.TableNumbers.{TableNumbers}
+
+-- `read_chad_tag`, `read_tech_tag`, `read_date_time_tag`, `read_meas_tag`, `read_viewing_conditions`, `read_xyz_tag`, `read_cicp_tag`
+pub data Small : Type 0 where
+  chad : Small
+  sig : Small
+  date : Small
+  meas : Small
+  view : Small
+  xyz : Small
+  cicp : Small
+
+-- `read_lut_tag` and `read_trc_tag`, each on either walk; `read_string_tag`; the seven small ones
+pub data Reader : Type 0 where
+  lut : Walk → Reader
+  trc : Walk → Reader
+  string : Reader
+  small : Small → Reader
+
+-- the profile, the tag's offset and size, the limits of curve entries and of grid points, and the words of the lent slots. A reader without
+-- limits or slots does not look at them
+pub record Call : Type 0 where
+  pub profile : List ℕ
+  pub entry : ℕ
+  pub size : ℕ
+  pub entries : ℕ
+  pub points : ℕ
+  pub slots : List ℕ
+
+-- what a reader returns
+abbrev pub SmallResult : Small → Type 0
+SmallResult chad = ChadAnswer
+SmallResult sig = SigAnswer
+SmallResult date = DateAnswer
+SmallResult meas = MeasAnswer
+SmallResult view = ViewAnswer
+SmallResult xyz = XyzAnswer
+SmallResult cicp = CicpAnswer
+
+abbrev pub Result : Reader → Type 0
+Result (lut walk) = Lut
+Result (trc walk) = CurveAnswer
+Result string = TextAnswer
+Result (small s) = SmallResult s
+
+-- its numbers
+abbrev pub Numbers : Reader → Type 0
+Numbers (lut walk) = Lut·Answer
+Numbers (trc walk) = Curve·Answer
+Numbers string = Text·Answer
+Numbers (small s) = Small·Answer
+
+abbrev pub smallNumbers : (s : Small) → SmallResult s → Small·Answer
+smallNumbers chad x = paperChad x
+smallNumbers sig x = paperSig x
+smallNumbers date x = paperDate x
+smallNumbers meas x = paperMeas x
+smallNumbers view x = paperView x
+smallNumbers xyz x = paperXyz x
+smallNumbers cicp x = paperCicp x
+
+abbrev pub numbers : (r : Reader) → Result r → Numbers r
+numbers (lut walk) x = Lut·paper x
+numbers (trc walk) x = Curve·paper x
+numbers string x = Text·paper x
+numbers (small s) x = smallNumbers s x
+
+-- the numbers that a call is to be answered with
+abbrev pub smallOf : Small → List ℕ → ℕ → ℕ → Small·Answer
+smallOf chad profile entry size = chadOf profile entry size
+smallOf sig profile entry size = sigOf profile entry size
+smallOf date profile entry size = dateOf profile entry size
+smallOf meas profile entry size = measOf profile entry size
+smallOf view profile entry size = viewOf profile entry size
+smallOf xyz profile entry size = xyzOf profile entry size
+smallOf cicp profile entry size = cicpOf profile entry size
+
+abbrev pub meaning : (r : Reader) → Call → Numbers r
+meaning (lut walk) c = lutOf walk (c .entries) (c .points) (c .profile) (c .entry) (c .size) (length (c .slots))
+meaning (trc walk) c = trcOf walk (c .entries) (c .profile) (c .entry) (c .size)
+meaning string c = stringOf (c .profile) (c .entry) (c .size) (length (c .slots))
+meaning (small s) c = smallOf s (c .profile) (c .entry) (c .size)
+
+-- and what it is to leave in the slots: the records that it read, in front, if its answer has records
+abbrev pub left : Reader → Call → List ℕ
+left (lut walk) c =
+    let t = Lut·tagOf (c .profile) (c .entry) (c .size) in
+    Lut·leftBy (meaning (lut walk) c .state) (recordsOf (curvesOf walk (c .entries) t (planOf t))) (c .slots)
+left (trc walk) c = c .slots
+left string c = Text·leftBy (meaning string c) (wordsIn (recordsIn (Text·tagOf (c .profile) (c .entry) (c .size)) .records)) (c .slots)
+left (small s) c = c .slots
+
+-- the ways in which a call can end
+pub data Outcome : Type 0 where
+  value : Outcome
+  default : Outcome
+  absent : Outcome
+  refused : ℕ → Outcome
+
+abbrev pub smallOutcome : Small·Answer → Outcome
+smallOutcome (Small·Answer.value ns) = value
+smallOutcome Small·Answer.default = default
+smallOutcome Small·Answer.absent = absent
+smallOutcome (Small·Answer.refused n) = refused n
+
+abbrev pub lutOutcome : State → Outcome
+lutOutcome (State.mft f) = value
+lutOutcome (State.abm f) = value
+lutOutcome State.absent = absent
+lutOutcome (State.refused n) = refused n
+
+abbrev pub curveOutcome : Curve·Answer → Outcome
+curveOutcome (Curve·Answer.value words consumed) = value
+curveOutcome Curve·Answer.absent = absent
+curveOutcome (Curve·Answer.refused n) = refused n
+
+abbrev pub textOutcome : Text·Answer → Outcome
+textOutcome (Text·Answer.text s) = value
+textOutcome (Text·Answer.desc s u) = value
+textOutcome (Text·Answer.mluc n) = value
+textOutcome Text·Answer.absent = absent
+textOutcome (Text·Answer.refused n) = refused n
+
+abbrev pub outcome : (r : Reader) → Numbers r → Outcome
+outcome (lut walk) a = lutOutcome (a .state)
+outcome (trc walk) a = curveOutcome a
+outcome string a = textOutcome a
+outcome (small s) a = smallOutcome a
+
+-- a library: what each reader returns and how it leaves the lent slots, and what is read of a tag by the numbers of a colour table
+pub record Library : Type 0 where
+  pub returns : (r : Reader) → Call → Result r
+  pub leaves : Reader → Call → List ℕ
+  pub reads : List ℕ → TableNumbers → List ℕ → ℕ → EntryAnswer
+
+-- what a call is answered with, in numbers, and how it ends
+abbrev pub says : Library → (r : Reader) → Call → Numbers r
+says l r c = numbers r (l .returns r c)
+
+abbrev pub ends : Library → Reader → Call → Outcome
+ends l r c = outcome r (says l r c)
+
+-- the library keeps the contracts of the readers, as they stand in the source, and of `table::entry_at`
+pub record Promised (l : Library) : Type 0 where
+  pub answers : (r : Reader) (c : Call) → says l r c ≡ meaning r c
+  pub leaves-so : (r : Reader) (c : Call) → l .leaves r c ≡ left r c
+  pub reads-so : (t : List ℕ) (n : TableNumbers) (index : List ℕ) (channel : ℕ) → Table·paper (l .reads t n index channel) ≡ entryOf t (tableBy t n) index channel

@@ -1,0 +1,152 @@
+-- Wrong readers, each made of a library by one fault, and the sentence that they are shut out.
+use Prim.Native.Nat.{ℕ, zero, suc}
+use mathlib.Core.List.{List, [], _++_}
+use lib.ListN.{length, take, drop, replicate}
+use Rattle.fields.specs.declared.Refusal.{Refusal}
+use Rattle.fields.specs.declared.Refusal.the-variants.{PastProfile}
+use Rattle.curve.specs.declared.CurveAnswer.{CurveAnswer}
+use Rattle.curve.specs.declared.Walk.{Walk}
+use Rattle.run.specs.Run.{recordWords, recordsOf}
+use Rattle.lut_meaning.specs.Layout.{planOf, recordsNeeded}
+use Rattle.lut_meaning.specs.Parts.{curvesOf}
+use Rattle.lut_meaning.specs.declared.LutAnswer.{LutAnswer}
+use Rattle.small_meaning.specs.declared.ChadAnswer.{ChadAnswer}
+use Rattle.small_meaning.specs.declared.CicpAnswer.{CicpAnswer}
+use Rattle.small_meaning.specs.declared.DateAnswer.{DateAnswer}
+use Rattle.small_meaning.specs.declared.MeasAnswer.{MeasAnswer}
+use Rattle.small_meaning.specs.declared.SigAnswer.{SigAnswer}
+use Rattle.small_meaning.specs.declared.ViewAnswer.{ViewAnswer}
+use Rattle.small_meaning.specs.declared.XyzAnswer.{XyzAnswer}
+use Rattle.text_meaning.specs.declared.TextAnswer.{TextAnswer}
+use Rattle.demands.specs.Readers.{Small, chad, sig, date, meas, view, xyz, cicp, Reader, lut, trc, string, small, Call, SmallResult, Result, left, Library, Promised}
+use Rattle.demands.specs.Demands.{tag, Demand1, Demand2}
+
+-- ---- one that refuses all
+
+abbrev pub smallRefusal : (s : Small) → Refusal → SmallResult s
+smallRefusal chad why = ChadAnswer.Refused why
+smallRefusal sig why = SigAnswer.Refused why
+smallRefusal date why = DateAnswer.Refused why
+smallRefusal meas why = MeasAnswer.Refused why
+smallRefusal view why = ViewAnswer.Refused why
+smallRefusal xyz why = XyzAnswer.Refused why
+smallRefusal cicp why = CicpAnswer.Refused why
+
+abbrev pub refusal : (r : Reader) → Refusal → Result r
+refusal (lut walk) why = record { answer = LutAnswer.Refused why; grid = replicate 16 0; matrix = replicate 9 0; bias = replicate 3 0 }
+refusal (trc walk) why = CurveAnswer.Refused why
+refusal string why = TextAnswer.Refused why
+refusal (small s) why = smallRefusal s why
+
+abbrev pub refusesAll : Library → Library
+refusesAll l = record { returns = λ r c. refusal r PastProfile; leaves = λ r c. c .slots; reads = l .reads }
+
+-- ---- one that always answers the default, and one that always answers the identity
+
+abbrev pub defaultInstead : (r : Reader) → Result r → Result r
+defaultInstead (lut walk) x = x
+defaultInstead (trc walk) x = x
+defaultInstead string x = x
+defaultInstead (small chad) x = x
+defaultInstead (small sig) x = x
+defaultInstead (small date) x = x
+defaultInstead (small meas) x = x
+defaultInstead (small view) x = x
+defaultInstead (small xyz) x = XyzAnswer.Default
+defaultInstead (small cicp) x = x
+
+abbrev pub alwaysDefault : Library → Library
+alwaysDefault l = record { returns = λ r c. defaultInstead r (l .returns r c); leaves = l .leaves; reads = l .reads }
+
+abbrev pub identityInstead : (r : Reader) → Result r → Result r
+identityInstead (lut walk) x = x
+identityInstead (trc walk) x =
+    CurveAnswer.Value record { kind = 0; start = 12; count = 0; g = 0; a = 0; b = 0; c = 0; d = 0; e = 0; f = 0 } 0
+identityInstead string x = x
+identityInstead (small s) x = x
+
+abbrev pub alwaysIdentity : Library → Library
+alwaysIdentity l = record { returns = λ r c. identityInstead r (l .returns r c); leaves = l .leaves; reads = l .reads }
+
+-- ---- one that accepts and leaves the slots unwritten
+
+abbrev pub unwritten : Library → Library
+unwritten l = record { returns = l .returns; leaves = λ r c. c .slots; reads = l .reads }
+
+-- ---- one that reads the first curve and copies it for the rest
+
+-- the records of the curves that a walk meets, whatever is answered
+abbrev pub recordsRead : Walk → Call → List ℕ
+recordsRead walk c = recordsOf (curvesOf walk (c .entries) (tag c) (planOf (tag c)))
+
+unfoldable pub copies : ℕ → List ℕ → List ℕ
+copies zero words = []
+copies (suc n) words = words ++ copies n words
+
+abbrev pub copiedIn : Reader → Call → List ℕ
+copiedIn (lut walk) c =
+    let records = copies (recordsNeeded (tag c)) (take recordWords (recordsRead walk c)) in
+    records ++ drop (length records) (c .slots)
+copiedIn (trc walk) c = c .slots
+copiedIn string c = left string c
+copiedIn (small s) c = c .slots
+
+abbrev pub copied : Library → Library
+copied l = record { returns = l .returns; leaves = copiedIn; reads = l .reads }
+
+-- ---- one that makes up the number of records: one B curve, whatever the channels are
+
+abbrev pub oneCurve : LutAnswer → LutAnswer
+oneCurve (LutAnswer.Mft t) = LutAnswer.Mft t
+oneCurve (LutAnswer.Abm t) =
+    LutAnswer.Abm
+    record {
+      «to_pcs» = t .«to_pcs»;
+      inputs = t .inputs;
+      outputs = t .outputs;
+      «clut_start» = t .«clut_start»;
+      «clut_length» = t .«clut_length»;
+      «entry_size» = t .«entry_size»;
+      «a_curves» = t .«a_curves»;
+      «m_curves» = t .«m_curves»;
+      «b_curves» = 1;
+    }
+oneCurve LutAnswer.Absent = LutAnswer.Absent
+oneCurve (LutAnswer.Refused why) = LutAnswer.Refused why
+
+abbrev pub oneInstead : (r : Reader) → Result r → Result r
+oneInstead (lut walk) x = record { answer = oneCurve (x .answer); grid = x .grid; matrix = x .matrix; bias = x .bias }
+oneInstead (trc walk) x = x
+oneInstead string x = x
+oneInstead (small s) x = x
+
+abbrev pub madeUp : Library → Library
+madeUp l = record { returns = λ r c. oneInstead r (l .returns r c); leaves = l .leaves; reads = l .reads }
+
+-- ---- one that writes the records that it read before it refuses
+
+abbrev pub writtenIn : Reader → Call → List ℕ
+writtenIn (lut walk) c =
+    let records = recordsRead walk c in
+    records ++ drop (length records) (c .slots)
+writtenIn (trc walk) c = c .slots
+writtenIn string c = left string c
+writtenIn (small s) c = c .slots
+
+abbrev pub tooEarly : Library → Library
+tooEarly l = record { returns = l .returns; leaves = writtenIn; reads = l .reads }
+
+-- ---- none of them is admitted, whatever library it was made of
+
+pub record ShutOut (l : Library) : Type 0 where
+  -- by `curve-accepted`
+  pub refuses-all : Demand2 (refusesAll l) → ⊥
+  pub always-identity : Demand2 (alwaysIdentity l) → ⊥
+  -- by `small-accepted`
+  pub always-default : Demand2 (alwaysDefault l) → ⊥
+  -- by `abm-accepted`
+  pub slots-unwritten : Demand2 (unwritten l) → ⊥
+  pub first-copied : Demand2 (copied l) → ⊥
+  pub count-made-up : Demand2 (madeUp l) → ⊥
+  -- by `refusal-leaves-slots`
+  pub written-too-early : Promised l → Demand1 (tooEarly l) → ⊥

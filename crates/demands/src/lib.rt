@@ -1,0 +1,1 @@
+// No function: the three demands over all readers, and the worked cases.
