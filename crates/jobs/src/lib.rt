@@ -1,4 +1,4 @@
-// The jobs of the programs, taken apart and answered: those of `curve-line`, and the heads of those of `answers`.
+// The jobs of the programs, taken apart: those of `curve-line`, which are answered too, and those of `answers`.
 use curve::CurveAnswer;
 use curve::CurveRecord;
 use curve::Walk;
@@ -8,7 +8,7 @@ ghost use mathlib.Core.Path.{_≡_};
 ghost use Rattle.curve.specs.Answer.{paper, words as Answer·words};
 ghost use Rattle.lines.specs.Text.{Wrote};
 ghost use Rattle.jobs.specs.CurveLine.{answered, lineFrom, lineOf, recordText, textOf};
-ghost use Rattle.jobs.specs.Stream.{u64At, headOf};
+ghost use Rattle.jobs.specs.Stream.{u64At, headOf, bytesBehind, indexOf};
 
 // What a job of `curve-line` comes to.
 pub enum CurveLine {
@@ -152,4 +152,49 @@ pub fn read_head(head: &[u8]) -> StreamHead
         length,
     };
     StreamHead::Job(job)
+}
+
+// What a job of `answers` asks behind its profile: nothing; the entry at a grid index, whose coordinates are the bytes from 1 on, so
+// many of them, and at an output channel; one with more than sixteen coordinates. A job that names no reader or is cut short is bad.
+pub enum StreamIndex {
+    Nothing,
+    At { coordinates: u8, channel: u8 },
+    TooMany,
+    BadJob,
+}
+
+// The last reader of `answers`, the table view.
+pub const TABLE_VIEW: u8 = 13;
+
+// How many bytes stand behind the profile in a job of a reader.
+pub fn bytes_behind(reader: u8) -> usize
+    ensures { λ r. ⌜ r ≡ bytesBehind reader ⌝ }
+{
+    if reader == TABLE_VIEW { 18 } else { 0 }
+}
+
+// Takes apart what stands behind the profile in a job of a reader.
+pub fn read_index(reader: u8, behind: &[u8]) -> StreamIndex
+    ensures { λ r. ⌜ r ≡ indexOf reader (now (behind .entry)) ⌝ }
+{
+    if reader < 1 {
+        return StreamIndex::BadJob;
+    }
+    if TABLE_VIEW < reader {
+        return StreamIndex::BadJob;
+    }
+    if reader < TABLE_VIEW {
+        return StreamIndex::Nothing;
+    }
+    if behind.len() < 18 {
+        return StreamIndex::BadJob;
+    }
+    let coordinates = fields::u8_at(behind, InTag(0));
+    if 16 < coordinates {
+        return StreamIndex::TooMany;
+    }
+    StreamIndex::At {
+        coordinates,
+        channel: fields::u8_at(behind, InTag(17)),
+    }
 }
