@@ -22,6 +22,7 @@ use Rattle.fields.specs.Bytes.{u32At}
 use Rattle.jobs.specs.declared.StreamJob.{StreamJob}
 use Rattle.jobs.specs.declared.StreamHead.{StreamHead}
 use Rattle.jobs.specs.declared.StreamIndex.{StreamIndex}
+use Rattle.jobs.specs.declared.StreamTail.{StreamTail}
 
 -- uInt64Number
 abbrev pub u64At : List ℕ → ℕ → ℕ
@@ -51,12 +52,12 @@ headOf h =
 abbrev pub bytesBehind : ℕ → ℕ
 bytesBehind reader = cond (eqb reader 13) 18 0
 
--- the grid index of a job whose bytes behind the profile are m; there are readers 1 to 13, and only the last has an index
-unfoldable pub indexOf : ℕ → List ℕ → StreamIndex
-indexOf reader m =
-    cond (ltb reader 1) StreamIndex.BadJob (
-    cond (ltb 13 reader) StreamIndex.BadJob (
-    cond (ltb reader 13) StreamIndex.Nothing (
-    cond (ltb (length m) 18) StreamIndex.BadJob (
-    cond (ltb 16 (getD m 0 0)) StreamIndex.TooMany (
-    StreamIndex.At (getD m 0 0) (getD m 17 0))))))
+-- what stands behind the profile; there are readers 1 to 13, and only the last has a grid index
+unfoldable pub tailOf : ℕ → List ℕ → StreamTail
+tailOf reader b =
+    cond (ltb reader 1) StreamTail.BadJob (
+    cond (ltb 13 reader) StreamTail.BadJob (
+    cond (ltb reader 13) (StreamTail.Index StreamIndex.Nothing) (
+    cond (ltb (length b) 18) StreamTail.BadJob (
+    cond (ltb 16 (getD b 0 0)) (StreamTail.Index StreamIndex.TooMany) (
+    StreamTail.Index (StreamIndex.At (getD b 0 0) (getD b 17 0)))))))

@@ -8,7 +8,7 @@ ghost use mathlib.Core.Path.{_≡_};
 ghost use Rattle.curve.specs.Answer.{paper, words as Answer·words};
 ghost use Rattle.lines.specs.Text.{Wrote};
 ghost use Rattle.jobs.specs.CurveLine.{answered, lineFrom, lineOf, recordText, textOf};
-ghost use Rattle.jobs.specs.Stream.{u64At, headOf, bytesBehind, indexOf};
+ghost use Rattle.jobs.specs.Stream.{u64At, headOf, bytesBehind, tailOf};
 
 // What a job of `curve-line` comes to.
 pub enum CurveLine {
@@ -154,12 +154,17 @@ pub fn read_head(head: &[u8]) -> StreamHead
     StreamHead::Job(job)
 }
 
-// What a job of `answers` asks behind its profile: nothing; the entry at a grid index, whose coordinates are the bytes from 1 on, so
-// many of them, and at an output channel; one with more than sixteen coordinates. A job that names no reader or is cut short is bad.
+// What a job of `answers` asks for behind its profile: nothing; the entry at a grid index, whose coordinates are so many bytes from byte 1
+// on, and at an output channel; an index of more than sixteen coordinates.
 pub enum StreamIndex {
     Nothing,
     At { coordinates: u8, channel: u8 },
     TooMany,
+}
+
+// A job that names no reader, or has fewer bytes behind its profile than its reader asks, is bad.
+pub enum StreamTail {
+    Index(StreamIndex),
     BadJob,
 }
 
@@ -174,27 +179,28 @@ pub fn bytes_behind(reader: u8) -> usize
 }
 
 // Takes apart what stands behind the profile in a job of a reader.
-pub fn read_index(reader: u8, behind: &[u8]) -> StreamIndex
-    ensures { λ r. ⌜ r ≡ indexOf reader (now (behind .entry)) ⌝ }
+pub fn read_tail(reader: u8, behind: &[u8]) -> StreamTail
+    ensures { λ r. ⌜ r ≡ tailOf reader (now (behind .entry)) ⌝ }
 {
     if reader < 1 {
-        return StreamIndex::BadJob;
+        return StreamTail::BadJob;
     }
     if TABLE_VIEW < reader {
-        return StreamIndex::BadJob;
+        return StreamTail::BadJob;
     }
     if reader < TABLE_VIEW {
-        return StreamIndex::Nothing;
+        return StreamTail::Index(StreamIndex::Nothing);
     }
     if behind.len() < 18 {
-        return StreamIndex::BadJob;
+        return StreamTail::BadJob;
     }
     let coordinates = fields::u8_at(behind, InTag(0));
     if 16 < coordinates {
-        return StreamIndex::TooMany;
+        return StreamTail::Index(StreamIndex::TooMany);
     }
-    StreamIndex::At {
+    let channel = fields::u8_at(behind, InTag(17));
+    StreamTail::Index(StreamIndex::At {
         coordinates,
-        channel: fields::u8_at(behind, InTag(17)),
-    }
+        channel,
+    })
 }
