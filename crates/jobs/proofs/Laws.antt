@@ -18,9 +18,11 @@ use Rattle.curve.specs.declared.Walk.the-variants.{Crate}
 use Rattle.lines.specs.Text.{Wrote, number, numerals}
 use Rattle.lines.proofs.Writing.{joined}
 use Rattle.jobs.specs.CurveLine.{answered, badJob, lineFrom, lineOf, recordText, textOf}
-use Rattle.jobs.specs.Stream.{jobOf, headOf}
+use Rattle.jobs.specs.Stream.{jobOf, headOf, tailOf}
 use Rattle.jobs.specs.declared.CurveLine.{CurveLine}
 use Rattle.jobs.specs.declared.StreamHead.{StreamHead}
+use Rattle.jobs.specs.declared.StreamIndex.{StreamIndex}
+use Rattle.jobs.specs.declared.StreamTail.{StreamTail}
 use Rattle.jobs.specs.declared.StreamJob.{StreamJob}
 
 -- ---- a job of `curve-line`
@@ -103,3 +105,36 @@ module _ (h : List ℕ) where
           rw (le-ltb _ _ s, le-ltb _ _ wide, le-ltb _ _ long) (ap StreamHead.Job e)
 
 pub ruleset head-laws = (head-short, head-words, head-length)
+
+-- ---- and what stands behind its profile
+
+module _ (reader : ℕ) (m : List ℕ) where
+  pub tail-low : reader < 1 → StreamTail.BadJob ≡ tailOf reader m
+  unfolding tailOf
+  tail-low l = simp (lt-ltb _ _ l)
+
+  module _ (low : 1 ≤ reader) where
+    pub tail-high : 13 < reader → StreamTail.BadJob ≡ tailOf reader m
+    unfolding tailOf
+    tail-high l = simp (le-ltb _ _ low, lt-ltb _ _ l)
+
+    module _ (high : reader ≤ 13) where
+      pub tail-none : reader < 13 → StreamTail.Index StreamIndex.Nothing ≡ tailOf reader m
+      unfolding tailOf
+      tail-none l = simp (le-ltb _ _ low, le-ltb _ _ high, lt-ltb _ _ l)
+
+      module _ (last : 13 ≤ reader) where
+        pub tail-short : length m < 18 → StreamTail.BadJob ≡ tailOf reader m
+        unfolding tailOf
+        tail-short l = simp (le-ltb _ _ low, le-ltb _ _ high, le-ltb _ _ last, lt-ltb _ _ l)
+
+        module _ (long : 18 ≤ length m) (n : ℕ) (e : n ≡ getD m 0 0) where
+          pub tail-many : 16 < n → StreamTail.Index StreamIndex.TooMany ≡ tailOf reader m
+          unfolding tailOf
+          tail-many l = simp (le-ltb _ _ low, le-ltb _ _ high, le-ltb _ _ last, le-ltb _ _ long, ← e, lt-ltb _ _ l)
+
+          pub tail-at : (channel : ℕ) → n ≤ 16 → channel ≡ getD m 17 0 → StreamTail.Index (StreamIndex.At n channel) ≡ tailOf reader m
+          unfolding tailOf
+          tail-at channel l f = simp (le-ltb _ _ low, le-ltb _ _ high, le-ltb _ _ last, le-ltb _ _ long, ← e, le-ltb _ _ l, ← f)
+
+pub ruleset tail-laws = (tail-low, tail-high, tail-none, tail-short, tail-many, tail-at)

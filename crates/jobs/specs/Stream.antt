@@ -1,4 +1,4 @@
--- The head of a job of the program `answers`, which stands before its profile.
+-- A job of the program `answers`: its head, which stands before its profile,
 --
 --    0        reader
 --    1 to  4  the tag's offset
@@ -7,14 +7,22 @@
 --   17 to 24  limit of grid points
 --   25 to 28  words lent, at most 8,192
 --   29 to 32  length of the profile, at most 1,048,576
+--
+-- and, of a job of reader 13, the table view, what stands behind its profile.
+--
+--    0        the number of coordinates
+--    1 to 16  the coordinates
+--   17        the output channel
 use Prim.Native.Nat.{ℕ, _+_, _*_, _^_}
 use mathlib.Core.Bool.{cond}
 use mathlib.Core.List.{List}
-use lib.Dec.{ltb}
+use lib.Dec.{ltb, eqb}
 use lib.ListN.{length, getD}
 use Rattle.fields.specs.Bytes.{u32At}
 use Rattle.jobs.specs.declared.StreamJob.{StreamJob}
 use Rattle.jobs.specs.declared.StreamHead.{StreamHead}
+use Rattle.jobs.specs.declared.StreamIndex.{StreamIndex}
+use Rattle.jobs.specs.declared.StreamTail.{StreamTail}
 
 -- uInt64Number
 abbrev pub u64At : List ℕ → ℕ → ℕ
@@ -39,3 +47,17 @@ headOf h =
     cond (ltb 8192 (u32At h 25)) StreamHead.BadJob (
     cond (ltb 1048576 (u32At h 29)) StreamHead.BadJob (
     StreamHead.Job (jobOf h))))
+
+-- how many bytes stand behind the profile
+abbrev pub bytesBehind : ℕ → ℕ
+bytesBehind reader = cond (eqb reader 13) 18 0
+
+-- what stands behind the profile; there are readers 1 to 13, and only the last has a grid index
+unfoldable pub tailOf : ℕ → List ℕ → StreamTail
+tailOf reader b =
+    cond (ltb reader 1) StreamTail.BadJob (
+    cond (ltb 13 reader) StreamTail.BadJob (
+    cond (ltb reader 13) (StreamTail.Index StreamIndex.Nothing) (
+    cond (ltb (length b) 18) StreamTail.BadJob (
+    cond (ltb 16 (getD b 0 0)) (StreamTail.Index StreamIndex.TooMany) (
+    StreamTail.Index (StreamIndex.At (getD b 0 0) (getD b 17 0)))))))

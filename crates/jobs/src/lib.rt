@@ -1,4 +1,4 @@
-// The jobs of the programs, taken apart and answered: those of `curve-line`, and the heads of those of `answers`.
+// The jobs of the programs, taken apart: those of `curve-line`, which are answered too, and those of `answers`.
 use curve::CurveAnswer;
 use curve::CurveRecord;
 use curve::Walk;
@@ -8,7 +8,7 @@ ghost use mathlib.Core.Path.{_≡_};
 ghost use Rattle.curve.specs.Answer.{paper, words as Answer·words};
 ghost use Rattle.lines.specs.Text.{Wrote};
 ghost use Rattle.jobs.specs.CurveLine.{answered, lineFrom, lineOf, recordText, textOf};
-ghost use Rattle.jobs.specs.Stream.{u64At, headOf};
+ghost use Rattle.jobs.specs.Stream.{u64At, headOf, bytesBehind, tailOf};
 
 // What a job of `curve-line` comes to.
 pub enum CurveLine {
@@ -152,4 +152,55 @@ pub fn read_head(head: &[u8]) -> StreamHead
         length,
     };
     StreamHead::Job(job)
+}
+
+// What a job of `answers` asks for behind its profile: nothing; the entry at a grid index, whose coordinates are so many bytes from byte 1
+// on, and at an output channel; an index of more than sixteen coordinates.
+pub enum StreamIndex {
+    Nothing,
+    At { coordinates: u8, channel: u8 },
+    TooMany,
+}
+
+// A job that names no reader, or has fewer bytes behind its profile than its reader asks, is bad.
+pub enum StreamTail {
+    Index(StreamIndex),
+    BadJob,
+}
+
+// The last reader of `answers`, the table view.
+pub const TABLE_VIEW: u8 = 13;
+
+// How many bytes stand behind the profile in a job of a reader.
+pub fn bytes_behind(reader: u8) -> usize
+    ensures { λ r. ⌜ r ≡ bytesBehind reader ⌝ }
+{
+    if reader == TABLE_VIEW { 18 } else { 0 }
+}
+
+// Takes apart what stands behind the profile in a job of a reader.
+pub fn read_tail(reader: u8, behind: &[u8]) -> StreamTail
+    ensures { λ r. ⌜ r ≡ tailOf reader (now (behind .entry)) ⌝ }
+{
+    if reader < 1 {
+        return StreamTail::BadJob;
+    }
+    if TABLE_VIEW < reader {
+        return StreamTail::BadJob;
+    }
+    if reader < TABLE_VIEW {
+        return StreamTail::Index(StreamIndex::Nothing);
+    }
+    if behind.len() < 18 {
+        return StreamTail::BadJob;
+    }
+    let coordinates = fields::u8_at(behind, InTag(0));
+    if 16 < coordinates {
+        return StreamTail::Index(StreamIndex::TooMany);
+    }
+    let channel = fields::u8_at(behind, InTag(17));
+    StreamTail::Index(StreamIndex::At {
+        coordinates,
+        channel,
+    })
 }

@@ -10,7 +10,7 @@ use lib.Seq.{take-suc, take-all}
 use borrow.Author.Tests.{lt-ltb, le-ltb}
 use Rattle.io.specs.Digits.{digits, Fewest}
 use Rattle.fields.specs.Bytes.{signed}
-use Rattle.lines.specs.Text.{Wrote, number, numeral, numerals}
+use Rattle.lines.specs.Text.{Wrote, number, numeral, row}
 use Rattle.lines.proofs.Writing.{joined, nothing}
 use Rattle.lines.proofs.Digits.{is-decimal}
 
@@ -32,24 +32,25 @@ from-half l m o at mid end before w h g v u =
     let e : 2 ^ 32 - 1 - w + 1 ≡ 2 ^ 32 - w = omega arith in
     rw (le-ltb w (2 ^ 31) h, e) (joined v u)
 
--- ---- a row of words
+-- ---- a row
 
-numerals-append : (xs ys : List ℕ) → numerals (xs ++ ys) ≡ numerals xs ++ numerals ys
-unfolding numerals
-numerals-append [] ys = refl
-numerals-append (x ∷ xs) ys = rw (numerals-append xs ys) (sym (append-assoc (numeral 32 (signed x)) (numerals xs) (numerals ys)))
+module _ (text : ℕ → List ℕ) where
+  row-append : (xs ys : List ℕ) → row text (xs ++ ys) ≡ row text xs ++ row text ys
+  unfolding row
+  row-append [] ys = refl
+  row-append (x ∷ xs) ys = rw (row-append xs ys) (sym (append-assoc (text x) (row text xs) (row text ys)))
 
-one-more : (ws : List ℕ) (i : ℕ) → i < length ws → numerals (take (i + 1) ws) ≡ numerals (take i ws) ++ numeral 32 (signed (getD ws i 0))
-unfolding numerals
-one-more ws i h =
-    rw (add-one, take-suc ws i 0 h) (numerals-append (take i ws) (getD ws i 0 ∷ []) ∙ ap (λ (y : List ℕ). numerals (take i ws) ++ y) (append-nil (numeral 32 (signed (getD ws i 0)))))
+  one-more : (ws : List ℕ) (i : ℕ) → i < length ws → row text (take (i + 1) ws) ≡ row text (take i ws) ++ text (getD ws i 0)
+  unfolding row
+  one-more ws i h =
+      rw (add-one, take-suc ws i 0 h) (row-append (take i ws) (getD ws i 0 ∷ []) ∙ ap (λ (y : List ℕ). row text (take i ws) ++ y) (append-nil (text (getD ws i 0))))
 
-pub words-begin : (l ws : List ℕ) (at : ℕ) → Wrote l l at at (numerals (take 0 ws))
-unfolding numerals
-words-begin l ws at = nothing l at
+  pub row-begin : (l ws : List ℕ) (at : ℕ) → Wrote l l at at (row text (take 0 ws))
+  unfolding row
+  row-begin l ws at = nothing l at
 
-pub words-turn : (l m n ws : List ℕ) (at mid end i : ℕ) → i < length ws → Wrote l m at mid (numerals (take i ws)) → Wrote m n mid end (numeral 32 (signed (getD ws i 0))) → Wrote l n at end (numerals (take (i + 1) ws))
-words-turn l m n ws at mid end i h w v = rw (one-more ws i h) (joined w v)
+  pub row-turn : (l m n ws : List ℕ) (at mid end i : ℕ) → i < length ws → Wrote l m at mid (row text (take i ws)) → Wrote m n mid end (text (getD ws i 0)) → Wrote l n at end (row text (take (i + 1) ws))
+  row-turn l m n ws at mid end i h w v = rw (one-more ws i h) (joined w v)
 
-pub words-end : (l m ws : List ℕ) (at end i : ℕ) → length ws ≤ i → Wrote l m at end (numerals (take i ws)) → Wrote l m at end (numerals ws)
-words-end l m ws at end i h w = rw (take-all i ws h) at w
+  pub row-end : (l m ws : List ℕ) (at end i : ℕ) → length ws ≤ i → Wrote l m at end (row text (take i ws)) → Wrote l m at end (row text ws)
+  row-end l m ws at end i h w = rw (take-all i ws h) at w

@@ -27,10 +27,21 @@ unfoldable pub numeral : ℕ → ℤ → List ℕ
 numeral before (pos n) = number before n
 numeral before (negsuc n) = before ∷ number 45 (n + 1)
 
+-- a text for each of a row
+unfoldable pub row : (ℕ → List ℕ) → List ℕ → List ℕ
+row text [] = []
+row text (n ∷ ns) = text n ++ row text ns
+
 -- words as signed numbers, each behind a space
+abbrev pub spaced : ℕ → List ℕ
+spaced w = numeral 32 (signed w)
+
 unfoldable pub numerals : List ℕ → List ℕ
-numerals [] = []
-numerals (w ∷ ws) = numeral 32 (signed w) ++ numerals ws
+numerals ws = row spaced ws
+
+-- numbers, each behind a space
+unfoldable pub numbers : List ℕ → List ℕ
+numbers ns = row (number 32) ns
 
 -- the text stands in the buffer from `at` on, as far as there is room; the rest of the buffer stays; `end` is where the written
 -- part ends

@@ -1,6 +1,6 @@
 // Lines of text in a lent buffer: bytes, and numbers in decimal. What has no room is not written, as with C's snprintf.
 ghost use Rattle.fields.specs.Bytes.{signed};
-ghost use Rattle.lines.specs.Text.{Wrote, number, numeral, numerals};
+ghost use Rattle.lines.specs.Text.{Wrote, number, numeral, numerals, numbers};
 
 // Writes `bytes` from `at` on, and answers where they end.
 pub fn put(out: &mut [u8], at: usize, bytes: &[u8]) -> usize
@@ -50,6 +50,32 @@ pub fn put_words(out: &mut [u8], at: usize, words: &[u32]) -> usize
     let mut i = 0;
     while i < words.len() {
         end = put_signed(out, end, b' ', words[i]);
+        i += 1;
+    }
+    end
+}
+
+// Writes each of the words as a number behind a space.
+pub fn put_numbers(out: &mut [u8], at: usize, words: &[u32]) -> usize
+    ensures { λ r. ⌜ Wrote (now (out .entry)) (now (out .exit)) at r (numbers (now (words .entry))) ⌝ }
+{
+    let mut end = at;
+    let mut i = 0;
+    while i < words.len() {
+        end = put_number(out, end, b' ', words[i] as u64);
+        i += 1;
+    }
+    end
+}
+
+// Writes each of the bytes as a number behind a space.
+pub fn put_bytes(out: &mut [u8], at: usize, bytes: &[u8]) -> usize
+    ensures { λ r. ⌜ Wrote (now (out .entry)) (now (out .exit)) at r (numbers (now (bytes .entry))) ⌝ }
+{
+    let mut end = at;
+    let mut i = 0;
+    while i < bytes.len() {
+        end = put_number(out, end, b' ', bytes[i] as u64);
         i += 1;
     }
     end

@@ -4,30 +4,31 @@ use Prim.Native.Nat.{_-_, _≤_}
 use native.Mathlib.Omega.{arith}
 use lib.ListN.{length, take}
 use borrow.Author.Needs.{needs}
-use Rattle.lines.specs.Text.{Wrote, numerals}
-use Rattle.lines.proofs.Laws.{words-begin, words-turn, words-end}
+use Rattle.lines.specs.Text.{Wrote, row, spaced, numerals}
+use Rattle.lines.proofs.Laws.{row-begin, row-turn, row-end}
 use Rattle.lines.proofs.Writing.{wrote-length}
 use Rattle.lines.proofs.put_words.Statement.{statement}
 use Rattle.lines.proofs.put_words.Tie as tie
 
 abbrev Inv-loop : tie.InvT-loop
-Inv-loop out₀ at words end₀ i₀ out end i = (i ≤ length words) × Wrote out₀ out at end (numerals (take i words))
+Inv-loop out₀ at words end₀ i₀ out end i = (i ≤ length words) × Wrote out₀ out at end (row spaced (take i words))
 
 abbrev μ-loop : tie.MeasureT-loop
 μ-loop out₀ at words end₀ i₀ out end i = length words - i
 
 pub put-words-spec : {M : Type 1} → statement M
+unfolding numerals
 put-words-spec =
     tie.close
     (tie.spec
     Inv-loop
     μ-loop
-    (λ c. (omega arith, search (needs, words-begin)))
+    (λ c. (omega arith, search (needs, row-begin spaced)))
     (λ c. search needs)
     (λ c. search needs)
     (λ c κs. search needs)
     (λ c. search needs)
     (λ c. search needs)
-    (λ c. (omega arith, search (needs, words-turn)))
+    (λ c. (omega arith, search (needs, row-turn spaced)))
     (λ c. search (needs, wrote-length))
-    (λ c. search (needs, words-end)))
+    (λ c. search (needs, row-end spaced)))

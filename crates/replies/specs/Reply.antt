@@ -1,0 +1,130 @@
+-- A job of the program `answers`: what is answered to it, and what is left of the lent words.
+use Prim.Native.Nat.{ℕ, zero, suc, _+_, _%_}
+use mathlib.Core.Path.{_≡_}
+use mathlib.Core.Bool.{cond}
+use mathlib.Core.List.{List, [], _∷_, _++_}
+use lib.Dec.{eqb}
+use lib.ListN.{length, take, drop}
+use Rattle.lines.specs.Text.{Wrote, numerals, numbers}
+use Rattle.curve.specs.Curve.{trcOf}
+use Rattle.curve.specs.declared.Walk.{Walk}
+use Rattle.curve.specs.declared.Walk.the-variants.{Crate, Book}
+use Rattle.run.specs.Run.{recordsOf}
+use Rattle.lut_meaning.specs.Answer.{State, Answer, leftBy}
+use Rattle.lut_meaning.specs.Layout.{planOf}
+use Rattle.lut_meaning.specs.Lut.{tagOf, lutOf}
+use Rattle.lut_meaning.specs.Parts.{curvesOf}
+use Rattle.text_meaning.specs.Answer.{leftBy as Text·leftBy}
+use Rattle.text_meaning.specs.Mluc.{recordsIn, wordsIn}
+use Rattle.text_meaning.specs.Text.{stringOf, tagOf as Text·tagOf}
+use Rattle.small_meaning.specs.Small.{chadOf, sigOf, dateOf, measOf, viewOf, xyzOf, cicpOf}
+use Rattle.table.specs.Answer.{Told}
+use Rattle.table.specs.View.{tableBy, numbersOf, entryOf}
+use Rattle.jobs.specs.Stream.{tailOf}
+use Rattle.jobs.specs.declared.StreamIndex.{StreamIndex}
+use Rattle.jobs.specs.declared.StreamJob.{StreamJob}
+use Rattle.jobs.specs.declared.StreamTail.{StreamTail}
+use Rattle.replies.specs.Texts.{curveText, lutText, stringText, smallText, measured, viewed, entryText, lentText}
+use Rattle.replies.specs.Words.{absentWord, refusedText}
+
+-- the words lent, as they are set before a call: word i is 0xA5A50000 + i, and i is below 8,192
+abbrev pub markAt : ℕ → ℕ
+markAt i = 0xA5A50000 + i % 0x10000
+
+unfoldable pub markedFrom : ℕ → ℕ → List ℕ
+markedFrom i zero = []
+markedFrom i (suc n) = markAt i ∷ markedFrom (i + 1) n
+
+abbrev pub marked : ℕ → List ℕ
+marked n = markedFrom 0 n
+
+-- the text of the answer, and the lent words after the call
+pub record Reply : Type 0 where
+  pub text : List ℕ
+  pub left : List ℕ
+
+module _ (job : StreamJob) (profile words : List ℕ) where
+  -- an answer that uses no words
+  abbrev pub plain : List ℕ → Reply
+  plain text = record { text = text; left = words }
+
+  -- an answer with the words behind it
+  abbrev pub lent : List ℕ → List ℕ → Reply
+  lent text left = record { text = text ++ lentText left; left = left }
+
+  -- a lookup table, and the words that its reader leaves
+  abbrev pub lutAnswer : Walk → Answer
+  lutAnswer walk = lutOf walk (job .entries) (job .points) profile (job .offset) (job .size) (length words)
+
+  abbrev pub lutTag : List ℕ
+  lutTag = tagOf profile (job .offset) (job .size)
+
+  abbrev pub lutLeft : Walk → List ℕ
+  lutLeft walk = leftBy (lutAnswer walk .state) (recordsOf (curvesOf walk (job .entries) lutTag (planOf lutTag))) words
+
+  abbrev pub lutReply : Walk → Reply
+  lutReply walk = lent (lutText (lutAnswer walk)) (lutLeft walk)
+
+  abbrev pub curveReply : Walk → Reply
+  curveReply walk = plain (curveText (trcOf walk (job .entries) profile (job .offset) (job .size)))
+
+  abbrev pub stringReply : Reply
+  stringReply =
+      let a = stringOf profile (job .offset) (job .size) (length words) in
+      lent (stringText a) (Text·leftBy a (wordsIn (recordsIn (Text·tagOf profile (job .offset) (job .size)) .records)) words)
+
+-- the entry at a grid index of the table that was answered; one of more than sixteen coordinates is nowhere
+unfoldable pub entryAt : State → List ℕ → List ℕ → StreamIndex → Told
+entryAt s t behind (StreamIndex.At n channel) = entryOf t (tableBy t (numbersOf s)) (take n (drop 1 behind)) channel
+entryAt s t behind StreamIndex.TooMany = Told.absent
+entryAt s t behind StreamIndex.Nothing = Told.absent
+
+-- where the reader of the table is absent or refuses, that is the answer
+unfoldable pub viewText : State → List ℕ → List ℕ → StreamIndex → List ℕ
+viewText (State.mft f) t behind index = entryText (entryAt (State.mft f) t behind index)
+viewText (State.abm f) t behind index = entryText (entryAt (State.abm f) t behind index)
+viewText State.absent t behind index = absentWord
+viewText (State.refused n) t behind index = refusedText n
+
+abbrev pub viewReply : StreamJob → List ℕ → List ℕ → List ℕ → StreamIndex → Reply
+viewReply job profile words behind index =
+    record { text = viewText (lutAnswer job profile words Crate .state) (lutTag job profile words) behind index; left = lutLeft job profile words Crate }
+
+-- the small readers
+unfoldable pub smallOf : StreamJob → List ℕ → List ℕ
+smallOf job profile =
+    let r = job .reader in
+    cond (eqb r 4) (smallText numerals (chadOf profile (job .offset) (job .size))) (
+    cond (eqb r 5) (smallText numbers (sigOf profile (job .offset) (job .size))) (
+    cond (eqb r 6) (smallText numbers (dateOf profile (job .offset) (job .size))) (
+    cond (eqb r 7) (smallText measured (measOf profile (job .offset) (job .size))) (
+    cond (eqb r 8) (smallText viewed (viewOf profile (job .offset) (job .size))) (
+    cond (eqb r 9) (smallText numerals (xyzOf profile (job .offset) (job .size))) (
+    smallText numbers (cicpOf profile (job .offset) (job .size))))))))
+
+-- by the reader that a job names: 1 to 13
+unfoldable pub replyOf : StreamJob → List ℕ → List ℕ → List ℕ → StreamIndex → Reply
+replyOf job profile words behind index =
+    let r = job .reader in
+    cond (eqb r 1) (lutReply job profile words Crate) (
+    cond (eqb r 2) (curveReply job profile words Crate) (
+    cond (eqb r 3) (stringReply job profile words) (
+    cond (eqb r 11) (lutReply job profile words Book) (
+    cond (eqb r 12) (curveReply job profile words Book) (
+    cond (eqb r 13) (viewReply job profile words behind index) (
+    plain job profile words (smallOf job profile)))))))
+
+-- a line ends; a bad job has none
+abbrev pub answerTo : StreamTail → StreamJob → List ℕ → List ℕ → List ℕ → Reply
+answerTo (StreamTail.Index index) job profile words behind =
+    let a = replyOf job profile words behind index in record { text = a .text ++ (0x0a ∷ []); left = a .left }
+answerTo StreamTail.BadJob job profile words behind = plain job profile words []
+
+-- a job, its profile, the bytes behind it, and so many words lent
+unfoldable pub answerOf : StreamJob → List ℕ → List ℕ → ℕ → Reply
+answerOf job profile behind n = answerTo (tailOf (job .reader) behind) job profile (marked n) behind
+
+-- what is written, and the words as they are left
+pub record Said (a : Reply) (before after left : List ℕ) (end : ℕ) : Type 0 where
+  pub written : Wrote before after 0 end (a .text)
+  pub left-is : left ≡ a .left

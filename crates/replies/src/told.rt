@@ -1,0 +1,30 @@
+// What the texts of all answers share. Each is put at the start of a line, and its caller puts the line's end behind it.
+use fields::InTag;
+use fields::Refusal;
+ghost use Rattle.fields.specs.Refusals.{numberOf};
+ghost use Rattle.lines.specs.Text.{Wrote};
+ghost use Rattle.replies.specs.Texts.{rangeText, lentText};
+ghost use Rattle.replies.specs.Words.{refusedText};
+
+pub(crate) fn put_refused(line: &mut [u8], why: Refusal) -> usize
+    ensures { λ r. ⌜ Wrote (now (line .entry)) (now (line .exit)) 0 r (refusedText (numberOf why)) ⌝ }
+{
+    let word = lines::put(line, 0, b"refused");
+    lines::put_number(line, word, b' ', why.number() as u64)
+}
+
+// A start and a length.
+pub(crate) fn put_range(line: &mut [u8], at: usize, start: InTag, length: u64) -> usize
+    ensures { λ r. ⌜ Wrote (now (line .entry)) (now (line .exit)) at r (rangeText (start .0) length) ⌝ }
+{
+    let next = lines::put_number(line, at, b' ', start.0);
+    lines::put_number(line, next, b' ', length)
+}
+
+// The lent words, as they are after the call.
+pub(crate) fn put_lent(line: &mut [u8], at: usize, words: &[u32]) -> usize
+    ensures { λ r. ⌜ Wrote (now (line .entry)) (now (line .exit)) at r (lentText (now (words .entry))) ⌝ }
+{
+    let bar = lines::put(line, at, b" |");
+    lines::put_numbers(line, bar, words)
+}
