@@ -1,17 +1,26 @@
--- A 32-bit number by its bytes; a row of bytes or of 32-bit numbers: how many it has, and which stands where.
+-- A number and a kind by their bytes; a row of bytes or of 32-bit numbers: how many it has, and which stands where.
 -- Assumes nothing.
 use Prim.Native.Nat.{ℕ, zero, suc, _+_, _*_, _≤_, _<_}
 use native.Mathlib.Omega.{arith}
-use native.Mathlib.Nat.{add-assoc}
+use native.Mathlib.Nat.{add-assoc, add-zero}
 use mathlib.Core.Path.{_≡_, refl, sym, _∙_, ap}
 use mathlib.Core.List.{List}
 use lib.ListN.{length, getD, take, drop, length-drop, List·getD-eq-default}
 use lib.Seq.{ext-getD, getD-take, getD-drop, length-take-le}
-use Rattle.fields.specs.Bytes.{number, u32At, bytesAt, wordsAt}
+use Rattle.fields.specs.Bytes.{number, u16At, u32At, bytesAt, wordsAt}
+use Rattle.fields.specs.Tag.{kindOf}
+use Rattle.fields.specs.declared.Kind.{Kind}
 
 module _ (s : List ℕ) where
   pub word-is : (at k : ℕ) {a b c d : ℕ} → a ≡ getD s (at + k) 0 → b ≡ getD s (at + (k + 1)) 0 → c ≡ getD s (at + (k + 2)) 0 → d ≡ getD s (at + (k + 3)) 0 → number a b c d ≡ u32At s (at + k)
   word-is at k ea eb ec ed = rw (ea, eb, ec, ed, ← add-assoc at k 1, ← add-assoc at k 2, ← add-assoc at k 3)
+
+  -- from the place itself on
+  pub half-is : (at : ℕ) {a b : ℕ} → a ≡ getD s (at + 0) 0 → b ≡ getD s (at + 1) 0 → a * 256 + b ≡ u16At s at
+  half-is at ea eb = rw (ea, eb, add-zero at)
+
+  pub kind-is : (at : ℕ) {a b c d : ℕ} {k : Kind} → a ≡ getD s (at + 0) 0 → b ≡ getD s (at + 1) 0 → c ≡ getD s (at + 2) 0 → d ≡ getD s (at + 3) 0 → k ≡ kindOf (number a b c d) → k ≡ kindOf (u32At s at)
+  kind-is at ea eb ec ed h = h ∙ ap kindOf (rw (ea, eb, ec, ed, add-zero at))
 
   pub words-length : (i n : ℕ) → length (wordsAt s i n) ≡ n
   unfolding wordsAt

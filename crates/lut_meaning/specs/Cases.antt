@@ -8,7 +8,7 @@ use Rattle.fields.specs.House.{houseEntries, housePoints}
 use Rattle.curve.specs.declared.Walk.{Walk}
 use Rattle.curve.specs.declared.Walk.the-variants.{Crate, Book}
 use Rattle.run.specs.Run.{recordWords, recordsOf}
-use Rattle.lut_meaning.specs.Answer.{abm, Answer, refuse, leftBy}
+use Rattle.lut_meaning.specs.Answer.{State, abm, Answer, refuse, leftBy}
 use Rattle.lut_meaning.specs.Layout.{planOf}
 use Rattle.lut_meaning.specs.Lut.{lutOf, tagOf}
 use Rattle.lut_meaning.specs.Parts.{curvesOf}
@@ -56,22 +56,20 @@ tagOfMatrix =
     ++ (0 ∷ 0 ∷ 0 ∷ 5 ∷ 0 ∷ 0 ∷ 0 ∷ 6 ∷ 0 ∷ 0 ∷ 0 ∷ 7 ∷ 0 ∷ 0 ∷ 0 ∷ 8 ∷ [])
     ++ (0 ∷ 0 ∷ 0 ∷ 9 ∷ 0 ∷ 0 ∷ 0 ∷ 10 ∷ 0 ∷ 0 ∷ 0 ∷ 11 ∷ 0 ∷ 0 ∷ 0 ∷ 12 ∷ [])
 
--- the answer for channels, a matrix and its bias, and so many M and B curves, without a colour table
-abbrev pub plain : ℕ → ℕ → List ℕ → List ℕ → ℕ → ℕ → Answer
-plain inputs outputs matrix bias m b =
-    record {
-      state = abm record { toPcs = true; inputs = inputs; outputs = outputs; start = 0; bytes = 0; size = 0; a = 0; m = m; b = b };
-      grid = replicate 16 0;
-      matrix = matrix;
-      bias = bias;
-    }
+-- so many channels, M curves and B curves, and no colour table
+abbrev pub curvesOnly : ℕ → ℕ → ℕ → ℕ → State
+curvesOnly inputs outputs m b =
+    abm record { toPcs = true; inputs = inputs; outputs = outputs; start = 0; bytes = 0; size = 0; a = 0; m = m; b = b }
 
--- the matrix of a tag that has none
-abbrev pub ones : List ℕ
-ones = 65536 ∷ 0 ∷ 0 ∷ 0 ∷ 65536 ∷ 0 ∷ 0 ∷ 0 ∷ 65536 ∷ []
+abbrev pub threeB : State
+threeB = curvesOnly 3 3 0 3
 
-abbrev pub threeB : Answer
-threeB = plain 3 3 ones (0 ∷ 0 ∷ 0 ∷ []) 0 3
+-- the answer with a matrix and its bias, and the answer without one
+abbrev pub withMatrix : State → List ℕ → List ℕ → Answer
+withMatrix s matrix bias = record { state = s; grid = replicate 16 0; matrix = matrix; bias = bias }
+
+abbrev pub plain : State → Answer
+plain s = withMatrix s (65536 ∷ 0 ∷ 0 ∷ 0 ∷ 65536 ∷ 0 ∷ 0 ∷ 0 ∷ 65536 ∷ []) (0 ∷ 0 ∷ 0 ∷ [])
 
 -- so many slots, each word 7
 abbrev pub slots : ℕ → List ℕ
@@ -86,13 +84,13 @@ straightAt start = 2 ∷ start ∷ 1 ∷ 65536 ∷ 0 ∷ 0 ∷ 0 ∷ 0 ∷ 0 ∷
 
 abbrev pub cases : List Case
 cases =
-    gives Crate tag 72 (slots 3) threeB (emptyAt 44 ++ emptyAt 44 ++ emptyAt 44) ∷
-    gives Book tag 72 (slots 3) threeB (emptyAt 44 ++ emptyAt 56 ++ straightAt 68) ∷
-    gives Book tag 72 (slots 4) threeB (emptyAt 44 ++ emptyAt 56 ++ straightAt 68 ++ slots 1) ∷
+    gives Crate tag 72 (slots 3) (plain threeB) (emptyAt 44 ++ emptyAt 44 ++ emptyAt 44) ∷
+    gives Book tag 72 (slots 3) (plain threeB) (emptyAt 44 ++ emptyAt 56 ++ straightAt 68) ∷
+    gives Book tag 72 (slots 4) (plain threeB) (emptyAt 44 ++ emptyAt 56 ++ straightAt 68 ++ slots 1) ∷
     gives Crate tag 72 (slots 2) (refuse 14) (slots 2) ∷
     gives Book tag 72 (slots 2) (refuse 14) (slots 2) ∷
     -- a run that is cut off is refused before the slots are counted
     gives Book tag 60 [] (refuse 2) [] ∷
-    gives Book tagOfM 56 (slots 2) (plain 1 2 ones (0 ∷ 0 ∷ 0 ∷ []) 2 0) (emptyAt 44 ++ emptyAt 56) ∷
-    gives Book tagOfMatrix 80 [] (plain 3 3 (1 ∷ 2 ∷ 3 ∷ 4 ∷ 5 ∷ 6 ∷ 7 ∷ 8 ∷ 9 ∷ []) (10 ∷ 11 ∷ 12 ∷ []) 0 0) [] ∷
+    gives Book tagOfM 56 (slots 2) (plain (curvesOnly 1 2 2 0)) (emptyAt 44 ++ emptyAt 56) ∷
+    gives Book tagOfMatrix 80 [] (withMatrix (curvesOnly 3 3 0 0) (1 ∷ 2 ∷ 3 ∷ 4 ∷ 5 ∷ 6 ∷ 7 ∷ 8 ∷ 9 ∷ []) (10 ∷ 11 ∷ 12 ∷ [])) [] ∷
     []

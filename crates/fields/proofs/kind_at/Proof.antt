@@ -1,7 +1,7 @@
 -- `fields::kind_at` meets its contract: its four bytes are those of the list.
 -- Assumes nothing.
-use native.Mathlib.Nat.{add-zero}
 use borrow.Author.Needs.{needs}
+use Rattle.fields.proofs.Words.{kind-is}
 use Rattle.fields.proofs.kind_at.Statement.{statement}
 use Rattle.fields.proofs.kind_at.Tie as tie
 
@@ -14,4 +14,4 @@ kind-at-spec =
     (λ c κs. search needs)
     (λ c κs. search needs)
     (λ c κs. search needs)
-    (λ c. cc (add-zero (c .before .before .before .before .before .before .args .at .0))))
+    (λ c. search (needs, kind-is)))

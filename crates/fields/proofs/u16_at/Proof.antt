@@ -1,7 +1,7 @@
 -- `fields::u16_at` meets its contract: its two bytes are those of the list.
 -- Assumes nothing.
-use native.Mathlib.Nat.{add-zero}
 use borrow.Author.Needs.{needs}
+use Rattle.fields.proofs.Words.{half-is}
 use Rattle.fields.proofs.u16_at.Statement.{statement}
 use Rattle.fields.proofs.u16_at.Tie as tie
 
@@ -15,4 +15,4 @@ u16-at-spec =
     (λ c. search needs)
     (λ c. search needs)
     (λ c. search needs)
-    (λ c. cc (add-zero (c .before .before .before .args .at .0))))
+    (λ c. search (needs, half-is)))
