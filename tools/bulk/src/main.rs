@@ -20,7 +20,7 @@ use std::io::{BufRead, BufReader, BufWriter, Write};
 use std::panic::{AssertUnwindSafe, catch_unwind};
 use std::path::PathBuf;
 use std::process::{Command, Stdio, exit};
-use std::sync::atomic::{AtomicUsize, Ordering};
+use std::sync::atomic::{AtomicU64, AtomicUsize, Ordering};
 use std::sync::{Arc, Mutex, mpsc};
 use std::time::Instant;
 
@@ -81,9 +81,12 @@ struct Counts {
     grown: BTreeMap<(String, usize), (u64, u64)>, // row before and change: tried, changed
 }
 
+/// Lines checked so far.
+static CHECKED: AtomicU64 = AtomicU64::new(0);
+
 fn difference(what: &str, job: &Job, line: &str) -> ! {
     let hex: String = job.encoded().iter().map(|byte| format!("{byte:02x}")).collect();
-    println!("DIFFERENCE: {what}\n  job  {hex}\n  ours {line}");
+    println!("DIFFERENCE after {} jobs: {what}\n  job  {hex}\n  ours {line}", CHECKED.load(Ordering::Relaxed));
     if (1..=10).contains(&job.reader) {
         println!("  Rust {}", catch_unwind(|| check::rust_line(job)).unwrap_or("panics".to_string()));
     }
@@ -104,6 +107,7 @@ fn check_batch(work: &Work, jobs: &[Job], lines: &[String], counts: &mut Counts)
         Work::Profile(_) => "profiles",
     };
     for ((job, line), text) in jobs.iter().zip(&parsed).zip(lines) {
+        CHECKED.fetch_add(1, Ordering::Relaxed);
         if job.reader <= 10 {
             let checked = catch_unwind(AssertUnwindSafe(|| check::check(job, line))).unwrap_or(Err("the Rust panicked".to_string()));
             let exception = checked.unwrap_or_else(|what| difference(&what, job, text));
