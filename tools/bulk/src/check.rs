@@ -1,15 +1,14 @@
 //! Holds a line of ours against what moxcms's reader returned. Our integers become floats, and our ranges strings and tables, as the
 //! Rust makes them, and all is compared by bits: moxcms's own `==` has a tolerance in places.
+//!
+//! This file is there twice, once for each walk: `super::plain` has the answers, `super::labelled` the lines that they come from.
+use super::{labelled, plain};
 use crate::job::Job;
 use crate::line::{Line, Ours};
 use crate::tags::PARAMETERS;
-use oracle::call::{Value, call};
-use oracle::*;
+use plain::call::{Value, call};
+use plain::*;
 use std::mem::discriminant;
-
-/// Where our answer and moxcms's are of another kind by design.
-pub const EXCEPTIONS: [&str; 3] =
-    ["`cicp`: the Rust refuses a matrix code", "date: twelve bytes, compared as six numbers", "`XYZ `: our default, zeros in the Rust"];
 
 /// The number of the refusal that a line of moxcms 0.9.1's reader.rs gives, of those whose error is `InvalidProfile`. The lines that
 /// are missing cannot be reached through the readers that a job names.
@@ -20,9 +19,9 @@ const LINES: [(u32, u32); 34] = [
 ];
 const DEFAULT_LINES: [u32; 2] = [947, 957];
 
-/// Either that line and answer agree, with the exception that they needed, or what is wrong.
+/// Either that line and answer agree, with the number of the exception that they needed, or what is wrong.
 pub fn check(job: &Job, line: &Line) -> Result<Option<usize>, String> {
-    let rust = call(job.reader, &job.profile, job.offset, job.size, &options(job)).ok_or("no such reader")?;
+    let rust = call(moxcms_reader(job), &job.profile, job.offset, job.size, &options(job)).ok_or("no such reader")?;
     let written = match (&line.answer, &rust) {
         (Ours::Absent, Ok(None)) => 0,
         (Ours::Refused(14), Ok(Some(value))) => {
@@ -58,8 +57,13 @@ pub fn check(job: &Job, line: &Line) -> Result<Option<usize>, String> {
 
 /// What moxcms answered, for a message.
 pub fn rust_line(job: &Job) -> String {
-    let line = answer::line(job.reader, &job.profile, job.offset, job.size, &options(job));
+    let line = answer::line(moxcms_reader(job), &job.profile, job.offset, job.size, &options(job));
     format!("{line} (reader.rs line {})", line_of(job))
+}
+
+/// The readers of the book walk, 11 and 12, are 1 and 2 there.
+fn moxcms_reader(job: &Job) -> u8 {
+    if job.reader > 10 { job.reader - 10 } else { job.reader }
 }
 
 fn options(job: &Job) -> ParsingOptions {
@@ -79,7 +83,7 @@ fn line_of(job: &Job) -> u32 {
     let ParsingOptions { max_profile_size, max_allowed_trc_size, max_allowed_clut_size } = options(job);
     let options = labelled::ParsingOptions { max_profile_size, max_allowed_trc_size, max_allowed_clut_size };
     labelled::label::take();
-    let _ = labelled::call::call(job.reader, &job.profile, job.offset, job.size, &options);
+    let _ = labelled::call::call(moxcms_reader(job), &job.profile, job.offset, job.size, &options);
     labelled::label::take()
 }
 

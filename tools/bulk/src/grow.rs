@@ -5,11 +5,8 @@ use crate::rng::Rng;
 
 pub const CHANGES: [&str; 4] = ["bytes appended", "limits raised", "words added", "all three"];
 
-/// A job and its four grown ones, in the order of CHANGES. Some are of the book walk.
-pub fn group(rng: &mut Rng, mut job: Job) -> Vec<Job> {
-    if job.reader <= 2 && rng.chance(400) {
-        job.reader += 10;
-    }
+/// A job and its four grown ones, in the order of CHANGES.
+pub fn group(rng: &mut Rng, job: Job) -> Vec<Job> {
     let mut bytes = job.clone();
     let more = if rng.chance(500) { rng.within(1..=8) } else { rng.within(1..=64) };
     bytes.profile.extend(rng.bytes(more as usize));

@@ -4,7 +4,8 @@
 //!
 //! `--random N` makes N random jobs, `--grown N` N groups of a job and its four grown ones. A lane is one run of COMMAND with a thread
 //! that makes its jobs and one that checks its lines; what jobs there are does not depend on the lanes. Exit status 1 at a difference.
-mod check;
+mod book_walk;
+mod crate_walk;
 mod grow;
 mod job;
 mod line;
@@ -27,8 +28,12 @@ use std::time::Instant;
 const BATCH: u64 = 10_000;
 const ENOUGH: u64 = 1_000; // times that each answer must be seen in a run of a million jobs or more
 
+/// Where our answer and moxcms's are of another kind by design.
+const EXCEPTIONS: [&str; 3] =
+    ["`cicp`: the Rust refuses a matrix code", "date: twelve bytes, compared as six numbers", "`XYZ `: our default, zeros in the Rust"];
+
 /// The refusals that each reader can give.
-const REFUSALS: [&[u32]; 10] = [
+const REFUSALS: [&[u32]; 12] = [
     &[1, 2, 3, 4, 5, 6, 7, 8, 9, 10, 11, 12, 13, 14, 15, 16],
     &[9, 10, 11, 12, 13],
     &[1, 2, 14],
@@ -39,6 +44,8 @@ const REFUSALS: [&[u32]; 10] = [
     &[1],
     &[1, 2],
     &[1],
+    &[1, 2, 3, 4, 5, 6, 7, 8, 9, 10, 11, 12, 13, 14, 15, 16],
+    &[9, 10, 11, 12, 13],
 ];
 
 #[derive(Clone)]
@@ -87,9 +94,8 @@ static CHECKED: AtomicU64 = AtomicU64::new(0);
 fn difference(what: &str, job: &Job, line: &str) -> ! {
     let hex: String = job.encoded().iter().map(|byte| format!("{byte:02x}")).collect();
     println!("DIFFERENCE after {} jobs: {what}\n  job  {hex}\n  ours {line}", CHECKED.load(Ordering::Relaxed));
-    if (1..=10).contains(&job.reader) {
-        println!("  Rust {}", catch_unwind(|| check::rust_line(job)).unwrap_or("panics".to_string()));
-    }
+    let of = if job.reader > 10 { book_walk::check::rust_line } else { crate_walk::check::rust_line };
+    println!("  Rust {}", catch_unwind(|| of(job)).unwrap_or("panics".to_string()));
     exit(1);
 }
 
@@ -108,13 +114,12 @@ fn check_batch(work: &Work, jobs: &[Job], lines: &[String], counts: &mut Counts)
     };
     for ((job, line), text) in jobs.iter().zip(&parsed).zip(lines) {
         CHECKED.fetch_add(1, Ordering::Relaxed);
-        if job.reader <= 10 {
-            let checked = catch_unwind(AssertUnwindSafe(|| check::check(job, line))).unwrap_or(Err("the Rust panicked".to_string()));
-            let exception = checked.unwrap_or_else(|what| difference(&what, job, text));
-            exception.into_iter().for_each(|which| *counts.exceptions.entry(which).or_default() += 1);
-            *counts.by_work.entry(name).or_default() += 1;
-            *counts.answers.entry((line.row(), job.reader)).or_default() += 1;
-        }
+        let check = if job.reader > 10 { book_walk::check::check } else { crate_walk::check::check };
+        let checked = catch_unwind(AssertUnwindSafe(|| check(job, line))).unwrap_or(Err("the Rust panicked".to_string()));
+        let exception = checked.unwrap_or_else(|what| difference(&what, job, text));
+        exception.into_iter().for_each(|which| *counts.exceptions.entry(which).or_default() += 1);
+        *counts.by_work.entry(name).or_default() += 1;
+        *counts.answers.entry((line.row(), job.reader)).or_default() += 1;
     }
     if let Work::Grown(..) = work {
         for (at, before) in parsed.iter().enumerate().step_by(5) {
@@ -176,16 +181,16 @@ impl Counts {
     }
 
     fn print(&self) {
-        println!("{:15}{}", "reader", make::READERS.map(|reader| format!("{reader:>10}")).collect::<String>());
+        println!("{:15}{}", "reader", make::READERS.map(|reader| format!("{reader:>9}")).collect::<String>());
         let rows: BTreeSet<&String> = self.answers.keys().map(|(row, _)| row).collect();
         for row in rows {
             let cell = |reader| self.answers.get(&(row.clone(), reader)).map_or(String::new(), |count| count.to_string());
-            println!("{row:15}{}", make::READERS.map(|reader| format!("{:>10}", cell(reader))).collect::<String>());
+            println!("{row:15}{}", make::READERS.map(|reader| format!("{:>9}", cell(reader))).collect::<String>());
         }
         let all = |reader| self.answers.iter().filter(|((_, of), _)| *of == reader).map(|(_, count)| count).sum::<u64>();
-        println!("{:15}{}", "jobs", make::READERS.map(|reader| format!("{:>10}", all(reader))).collect::<String>());
+        println!("{:15}{}", "jobs", make::READERS.map(|reader| format!("{:>9}", all(reader))).collect::<String>());
         for (which, count) in &self.exceptions {
-            println!("exception {count:>10}  {}", check::EXCEPTIONS[*which]);
+            println!("exception {count:>10}  {}", EXCEPTIONS[*which]);
         }
         if !self.grown.is_empty() {
             println!("{:15}{}", "before", grow::CHANGES.map(|change| format!("{change:>20}")).concat());

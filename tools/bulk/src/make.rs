@@ -4,13 +4,13 @@ use crate::rng::Rng;
 use crate::tags::{self, LAST, NEAR_TYPES};
 use std::path::{Path, PathBuf};
 
-pub const READERS: std::ops::RangeInclusive<u8> = 1..=10;
+pub const READERS: std::ops::RangeInclusive<u8> = 1..=12; // 11 and 12 are 1 and 2 on the book walk
 
 /// Part `part` of the exhaustive sets; none behind the last. Every type, and two that are none, by every reader: profiles of up to 56
 /// bytes, offsets up to 4, sizes up to 57 and at the end of 32 bits. Then, around each small good tag: every byte of it at every
 /// value, every length of the profile with every size around it, and every number of words up to some more than its records take.
 pub fn exhaustive(part: u64) -> Option<Vec<Job>> {
-    let mut types: Vec<&[u8; 4]> = READERS.flat_map(tags::types_of).copied().collect();
+    let mut types: Vec<&[u8; 4]> = (1..=10).flat_map(tags::types_of).copied().collect();
     types.extend([b"XYZ\0", b"vruc"]);
     let (kinds, readers) = (types.len() as u64, u64::from(*READERS.end()));
     if part < kinds * readers {
@@ -18,7 +18,11 @@ pub fn exhaustive(part: u64) -> Option<Vec<Job>> {
     }
     let small = tags::small();
     let (reader, tag) = small.get((part - kinds * readers) as usize)?;
-    Some(around(*reader, tag))
+    let mut jobs = around(*reader, tag);
+    if *reader <= 2 {
+        jobs.extend(around(reader + 10, tag));
+    }
+    Some(jobs)
 }
 
 /// The head of the first small tag of this type, or of the first of all, and zeros behind it.
@@ -72,8 +76,10 @@ fn around(reader: u8, tag: &[u8]) -> Vec<Job> {
 /// A random job: a random tag for its reader or for another, at times damaged, cut or extended, somewhere in a profile.
 pub fn random(rng: &mut Rng) -> Job {
     let reader = match rng.below(100) {
-        0..38 => 1,
-        38..52 => 2,
+        0..34 => 1,
+        34..38 => 11,
+        38..50 => 2,
+        50..52 => 12,
         52..70 => 3,
         _ => rng.within(4..=10) as u8,
     };
@@ -209,7 +215,7 @@ pub fn of_profile(profile: &[u8]) -> Vec<Job> {
                 let mut job = Job::new(reader, offset, size, profile.to_vec());
                 job.curve_limit = limit.unwrap_or(job.curve_limit);
                 job.grid_limit = limit.unwrap_or(job.grid_limit);
-                job.words = if matches!(reader, 1 | 3) { 10 * 514 } else { 0 };
+                job.words = if matches!(reader, 1 | 3 | 11) { 10 * 514 } else { 0 };
                 jobs.push(job);
             }
         }

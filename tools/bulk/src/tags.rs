@@ -4,11 +4,11 @@ use crate::rng::Rng;
 pub const PARAMETERS: [usize; 5] = [1, 3, 4, 5, 7]; // of a `para` curve, by function type
 pub const LAST: u32 = u32::MAX;
 
-/// The types that each reader of a number from 1 to 10 takes.
+/// The types that each reader takes.
 pub fn types_of(reader: u8) -> &'static [&'static [u8; 4]] {
     match reader {
-        1 => &[b"mft1", b"mft2", b"mAB ", b"mBA "],
-        2 => &[b"curv", b"para"],
+        1 | 11 => &[b"mft1", b"mft2", b"mAB ", b"mBA "],
+        2 | 12 => &[b"curv", b"para"],
         3 => &[b"text", b"desc", b"mluc"],
         4 => &[b"sf32"],
         5 => &[b"sig "],
@@ -139,9 +139,9 @@ pub fn words_for(tag: &[u8]) -> u32 {
 /// A random tag for a reader.
 pub fn random(rng: &mut Rng, reader: u8) -> Vec<u8> {
     let mut tag = match reader {
-        1 if rng.chance(400) => random_mft(rng),
-        1 => random_mab(rng),
-        2 => random_curve(rng),
+        1 | 11 if rng.chance(400) => random_mft(rng),
+        1 | 11 => random_mab(rng),
+        2 | 12 => random_curve(rng),
         3 => match rng.below(10) {
             0..2 => text(&string(rng)),
             2..5 => random_desc(rng),
