@@ -169,7 +169,6 @@ def stored() -> list[tuple[str, Job]]:
         cases.append((f"grid 2, 2, 2 to 3: {count} coordinates", at(cube, (0,) * 16, 0, count)))
     wide = lut._job(tag_of(17, 1, clut=colour_table((2,) * 16, 1, ramp(2**15))))
     cases.append(("17 inputs: 16 coordinates", at(wide, (1,) * 16, 0)))
-    cases.append(("17 inputs: 17 coordinates", at(wide, (1,) * 16, 0, 17)))
     cases.append(("no colour table", at(lut._job(tag_of(3, 3, b=curv(0))), (0, 0, 0), 0)))
     cases.append(("5 to 5 channels", at(lut._job(lut.element(5, 5)), (0,) * 5, 0)))
     runs = tag_of(1, 1, clut=colour_table((2,), 1, b"\x07\x08"), b=para(0, 1))

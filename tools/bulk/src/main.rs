@@ -208,7 +208,8 @@ impl Counts {
             return vec![];
         }
         let all = (1..).zip(REFUSALS).flat_map(|(reader, numbers)| numbers.iter().map(move |number| (format!("refused {number:>2}"), reader)));
-        all.filter(|key| self.answers.get(key).is_none_or(|count| *count < ENOUGH)).map(|(row, reader)| format!("reader {reader}: {row}")).collect()
+        let rare = all.filter(|key| self.answers.get(key).is_none_or(|count| *count < ENOUGH));
+        rare.map(|(row, reader)| format!("reader {reader}: {row}")).collect()
     }
 }
 

@@ -336,9 +336,9 @@ fn random_mab(rng: &mut Rng) -> Vec<u8> {
             let needs = [12, 48, 12, 20, 12][part];
             let other = offsets[rng.below(5) as usize];
             let near = rng.below(21) as u32;
-            offsets[part] = rng.pick(&[
-                0, 4, near, other, other.wrapping_add(near), length.max(needs) - needs, length.max(needs) - needs + 1, length, LAST - near, LAST, 1 << 31,
-            ]);
+            let last = length.max(needs) - needs;
+            offsets[part] =
+                rng.pick(&[0, 4, near, other, other.wrapping_add(near), last, last + 1, length, LAST - near, LAST, 1 << 31]);
         }
     }
     mab(signature, [inputs, outputs], offsets, &body)
