@@ -106,6 +106,12 @@ def generate(rng: Random) -> Job:
     return at(job, tuple(coordinates), channel, count)
 
 
+def _job(tag: bytes, size: int | None = None, words: int | None = None) -> Job:
+    """By default the whole tag, and just the words that its records take."""
+    lent = lut.WORDS * lut.records(tag) if words is None else words
+    return Job(TABLE_VIEW, 0, len(tag) if size is None else size, tag, words=lent)
+
+
 def _tables() -> Iterator[tuple[str, Job]]:
     """Small tables, and what they are."""
     grids = {"grid 2, 2, 2 to 3": ((2, 2, 2), 3), "grid 2, 3 to 1": ((2, 3), 1), "grid 5 to 4": ((5,), 4), "no inputs to 2": ((), 2)}
@@ -117,11 +123,11 @@ def _tables() -> Iterator[tuple[str, Job]]:
             data = ramp(points * outputs)[: points * outputs * size]
             for signature, name in ((lut.MAB, "mAB"), (MBA, "mBA")):
                 tag = tag_of(len(grid), outputs, signature, clut=colour_table(grid, size, data))
-                yield f"{name}, {what}, entries of {size}", lut._job(tag)
+                yield f"{name}, {what}, entries of {size}", _job(tag)
     for signature in mft.TYPES:
         for inputs, outputs, grid in ((1, 3, 3), (3, 1, 2), (2, 3, 2), (4, 3, 2)):
             tag = mft.element(inputs, outputs, grid, signature=signature)
-            yield f"{signature.decode()}, {inputs} to {outputs}, grid {grid}", lut._job(tag, words=0)
+            yield f"{signature.decode()}, {inputs} to {outputs}, grid {grid}", _job(tag, words=0)
 
 
 def _indexes(job: Job) -> Iterator[tuple[tuple[int, ...], int]]:
@@ -162,19 +168,19 @@ def stored() -> list[tuple[str, Job]]:
         indexes = list(_indexes(job))
         for index, channel in (*indexes[:: max(len(indexes) // 5, 1)], indexes[-1]):
             cases.append((f"{what}: index {index}, channel {channel}", at(job, index, channel)))
-    cube = lut._job(tag_of(3, 3, clut=colour_table((2, 2, 2), 1, ramp(12))))
+    cube = _job(tag_of(3, 3, clut=colour_table((2, 2, 2), 1, ramp(12))))
     for index, channel in (((0, 0, 0), 0), ((0, 0, 1), 0), ((1, 0, 0), 0), ((1, 1, 1), 2), ((1, 1, 1), 3), ((2, 0, 0), 0)):
         cases.append((f"grid 2, 2, 2 to 3: index {index}, channel {channel}", at(cube, index, channel)))
     for count in (0, 2, 4, 16, 17, 255):
         cases.append((f"grid 2, 2, 2 to 3: {count} coordinates", at(cube, (0,) * 16, 0, count)))
-    wide = lut._job(tag_of(17, 1, clut=colour_table((2,) * 16, 1, ramp(2**15))))
+    wide = _job(tag_of(17, 1, clut=colour_table((2,) * 16, 1, ramp(2**15))))
     cases.append(("17 inputs: 16 coordinates", at(wide, (1,) * 16, 0)))
-    cases.append(("no colour table", at(lut._job(tag_of(3, 3, b=curv(0))), (0, 0, 0), 0)))
-    cases.append(("5 to 5 channels", at(lut._job(lut.element(5, 5)), (0,) * 5, 0)))
+    cases.append(("no colour table", at(_job(tag_of(3, 3, b=curv(0))), (0, 0, 0), 0)))
+    cases.append(("5 to 5 channels", at(_job(lut.element(5, 5)), (0,) * 5, 0)))
     runs = tag_of(1, 1, clut=colour_table((2,), 1, b"\x07\x08"), b=para(0, 1))
-    cases.append(("a run, words enough", at(lut._job(runs), (1,), 0)))
-    cases.append(("a run, no words", at(lut._job(runs, words=9), (1,), 0)))
-    cases.append(("a run, no words, 17 coordinates", at(lut._job(runs, words=9), (1,), 0, 17)))
-    cases.append(("past the profile", at(lut._job(runs, size=len(runs) + 1), (1,), 0)))
-    cases.append(("a colour table a byte short", at(lut._job(tag_of(1, 8, clut=colour_table((2,), 1, bytes(15)))), (1,), 0)))
+    cases.append(("a run, words enough", at(_job(runs), (1,), 0)))
+    cases.append(("a run, no words", at(_job(runs, words=9), (1,), 0)))
+    cases.append(("a run, no words, 17 coordinates", at(_job(runs, words=9), (1,), 0, 17)))
+    cases.append(("past the profile", at(_job(runs, size=len(runs) + 1), (1,), 0)))
+    cases.append(("a colour table a byte short", at(_job(tag_of(1, 8, clut=colour_table((2,), 1, bytes(15)))), (1,), 0)))
     return [(f"entry: {comment}", job) for comment, job in cases]
