@@ -23,12 +23,16 @@ def profiles(folder: Path) -> Iterator[bytes]:
         yield path.read_bytes()
 
 
-def tags(profile: bytes) -> Iterator[tuple[int, int]]:
-    """Offset and size of each entry of the tag table, as far as the table lies in the profile."""
+def entries(profile: bytes) -> Iterator[tuple[bytes, int, int]]:
+    """Signature, offset and size of each entry of the tag table, as far as the table lies in the profile."""
     if len(profile) < TAG_TABLE_AT:
         return
     (count,) = struct.unpack_from(">I", profile, TAG_COUNT_AT)
     room = (len(profile) - TAG_TABLE_AT) // ENTRY.size
     for number in range(min(count, room)):
-        _signature, offset, size = ENTRY.unpack_from(profile, TAG_TABLE_AT + ENTRY.size * number)
+        yield ENTRY.unpack_from(profile, TAG_TABLE_AT + ENTRY.size * number)
+
+
+def tags(profile: bytes) -> Iterator[tuple[int, int]]:
+    for _, offset, size in entries(profile):
         yield offset, size

@@ -1,57 +1,49 @@
-//! Calls one of moxcms's readers and prints all of what it returned; decides nothing itself.
+//! Prints all of what one of moxcms's readers returned; decides nothing itself.
 //!
 //! Floats are printed by their bits, and after a slash as the number of 65536ths; tables and strings entry by entry
 //! in hexadecimal.
+use crate::call::{Value, call};
 use crate::*;
 use std::fmt::Write;
 
 /// The answer line of one job.
 pub fn line(reader: u8, profile: &[u8], offset: u32, size: u32, options: &ParsingOptions) -> String {
-    let (entry, size) = (offset as usize, size as usize);
-    match reader {
-        1 => optional(ColorProfile::read_lut_tag(profile, offset, size, options), lookup_table),
-        2 => {
-            let mut consumed = 0;
-            let curve = ColorProfile::read_trc_tag(profile, entry, size, &mut consumed, options);
-            optional(curve, |c| format!("{} consumed={consumed}", tone_curve(&c)))
-        }
-        3 => optional(ColorProfile::read_string_tag(profile, entry, size), text),
-        4 => optional(ColorProfile::read_chad_tag(profile, entry, size), |m| matrix(&m)),
-        5 => optional(ColorProfile::read_tech_tag(profile, entry, size), |t| format!("{t:?}")),
-        6 => optional(ColorProfile::read_date_time_tag(profile, entry, size), |d| {
-            format!("{} {} {} {} {} {}", d.year, d.month, d.day_of_the_month, d.hours, d.minutes, d.seconds)
-        }),
-        7 => optional(ColorProfile::read_meas_tag(profile, entry, size), |m| {
-            format!(
-                "observer={:?} backing={} geometry={:?} flare={:08x} illuminant={:?}",
-                m.observer, xyz(&m.backing), m.geometry, m.flare.to_bits(), m.illuminant
-            )
-        }),
-        8 => optional(ColorProfile::read_viewing_conditions(profile, entry, size), |v| {
-            format!("illuminant={} surround={} observer={:?}", xyz(&v.illuminant), xyz(&v.surround), v.observer)
-        }),
-        9 => optional(ColorProfile::read_xyz_tag(profile, entry, size).map(Some), |v| doubles(&[v.x, v.y, v.z])),
-        10 => optional(ColorProfile::read_cicp_tag(profile, entry, size), |c| {
-            format!(
-                "primaries={:?} transfer={:?} matrix={:?} full={}",
-                c.color_primaries, c.transfer_characteristics, c.matrix_coefficients, c.full_range
-            )
-        }),
-        _ => "no oracle".to_string(),
-    }
-}
-
-fn optional<T>(answer: Result<Option<T>, CmsError>, show: impl FnOnce(T) -> String) -> String {
-    match answer {
-        Ok(Some(value)) => format!("value {}", show(value)),
-        Ok(None) => "absent".to_string(),
-        Err(error) => {
+    match call(reader, profile, offset, size, options) {
+        None => "no oracle".to_string(),
+        Some(Ok(Some(value))) => format!("value {}", shown(value)),
+        Some(Ok(None)) => "absent".to_string(),
+        Some(Err(error)) => {
             let all = format!("{error:?}");
             match all.split_once('(') {
                 None => format!("error {all}"),
                 Some((class, _)) => format!("error {class} | {error}"),
             }
         }
+    }
+}
+
+fn shown(value: Value) -> String {
+    match value {
+        Value::Table(table) => lookup_table(table),
+        Value::Curve(curve, consumed) => format!("{} consumed={consumed}", tone_curve(&curve)),
+        Value::Text(found) => text(found),
+        Value::Chad(m) => matrix(&m),
+        Value::Technology(t) => format!("{t:?}"),
+        Value::Date(d) => {
+            format!("{} {} {} {} {} {}", d.year, d.month, d.day_of_the_month, d.hours, d.minutes, d.seconds)
+        }
+        Value::Measurement(m) => format!(
+            "observer={:?} backing={} geometry={:?} flare={:08x} illuminant={:?}",
+            m.observer, xyz(&m.backing), m.geometry, m.flare.to_bits(), m.illuminant
+        ),
+        Value::Conditions(v) => {
+            format!("illuminant={} surround={} observer={:?}", xyz(&v.illuminant), xyz(&v.surround), v.observer)
+        }
+        Value::Xyz(v) => doubles(&[v.x, v.y, v.z]),
+        Value::Cicp(c) => format!(
+            "primaries={:?} transfer={:?} matrix={:?} full={}",
+            c.color_primaries, c.transfer_characteristics, c.matrix_coefficients, c.full_range
+        ),
     }
 }
 

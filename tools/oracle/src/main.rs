@@ -5,40 +5,7 @@
 //! A job, big-endian: reader u8, offset u32, size u32, limit of curve entries u64, limit of grid points u64,
 //! words lent u32 (unread here), length of the profile u32, the profile. Reader 13 has 18 bytes more.
 //! Readers 11 and up are not moxcms's: `no oracle`. A reader that panics is answered `panicked at` and where.
-//!
-//! The modules named in the first list are moxcms's files, put beside this one by ../build.
-#![allow(dead_code, unused_imports, unused_macros, unreachable_pub)]
-
-mod cicp;
-mod dat;
-mod err;
-mod helpers;
-mod matan;
-mod math;
-mod matrix;
-mod mlaf;
-mod profile;
-mod reader;
-mod safe_math;
-mod tag;
-mod trc;
-mod writer;
-
-mod answer;
-mod stand_ins;
-
-// moxcms's files find each other, and what they need from elsewhere, under the names of its own lib.rs.
-extern crate self as num_traits;
-extern crate self as pxfm;
-pub use cicp::{CicpColorPrimaries, ColorPrimaries, MatrixCoefficients, TransferCharacteristics};
-pub use dat::ColorDateTime;
-pub use err::{CmsError, MalformedSize};
-pub use math::rounding_div_ceil;
-pub use matrix::*;
-pub use profile::*;
-pub use stand_ins::*;
-pub use trc::{GammaLutInterpolate, ParametricCurve, ToneCurveEvaluator, ToneReprCurve, curve_from_gamma};
-
+use oracle::{ParsingOptions, answer};
 use std::cell::RefCell;
 use std::io::{self, BufReader, BufWriter, Read, Write};
 use std::panic;
