@@ -107,10 +107,11 @@ pub(crate) fn answer(
         walk,
         words,
     );
+    let answer = got.answer;
     let grid = got.grid;
     let matrix = got.matrix;
     let bias = got.bias;
-    let said = put_answer(line, got.answer, &grid, &matrix, &bias);
+    let said = put_answer(line, answer, &grid, &matrix, &bias);
     told::put_lent(line, said, words)
 }
 
@@ -193,5 +194,6 @@ pub(crate) fn view(
         Walk::Crate,
         words,
     );
-    put_view(line, &profile[from..to], got.answer, job, behind, index)
+    let answer = got.answer;
+    put_view(line, &profile[from..to], answer, job, behind, index)
 }
