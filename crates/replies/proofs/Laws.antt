@@ -3,30 +3,25 @@
 use Prim.Native.Nat.{ℕ, zero, suc, _+_, _-_, _≤_, _<_}
 use native.Mathlib.Omega.{arith}
 use mathlib.Core.Path.{_≡_, refl, sym, ap, _∙_}
-use mathlib.Core.Bool.{Bool}
 use mathlib.Core.List.{List, [], _∷_}
 use lib.Dec.{ltb}
 use lib.ListN.{length, getD, take, drop, set}
 use lib.Seq.{sets}
-use borrow.Author.Tests.{eq-eqb, ne-eqb, lt-ltb, ltb-false}
+use borrow.Author.Tests.{ne-eqb, lt-ltb, ltb-false}
 use Rattle.fields.specs.Place.{placeOf, countedSize}
-use Rattle.fields.specs.Refusals.{numberOf}
 use Rattle.fields.specs.declared.Place.{Place}
 use Rattle.fields.specs.declared.Place.the-variants.{In, Past}
-use Rattle.fields.specs.declared.Refusal.{Refusal}
 use Rattle.fields.proofs.Choice.{each}
 use Rattle.fields.proofs.Located.{inside, past, part-is}
 use Rattle.fields.proofs.Stores.{fill-begins, fill-turns, fill-ends}
-use Rattle.lines.specs.Text.{Wrote, number}
+use Rattle.lines.specs.Text.{Wrote}
 use Rattle.lines.proofs.Writing.{joined, nothing}
 use Rattle.curve.specs.declared.Walk.{Walk}
 use Rattle.curve.specs.declared.Walk.the-variants.{Crate, Book}
-use Rattle.lut_meaning.specs.Answer.{State, refuse, stateFrom, paper}
+use Rattle.lut_meaning.specs.Answer.{refuse, stateFrom, paper}
 use Rattle.lut_meaning.specs.Lut.{tagOf, lutOf, Said as Lut·Said}
 use Rattle.lut_meaning.specs.declared.Lut.{Lut}
 use Rattle.lut_meaning.specs.declared.LutAnswer.{LutAnswer}
-use Rattle.lut_meaning.specs.declared.AbmTable.{AbmTable}
-use Rattle.mft.specs.declared.MftTable.{MftTable}
 use Rattle.text_meaning.specs.Answer.{paper as Text·paper}
 use Rattle.text_meaning.specs.Text.{stringOf, tagOf as Text·tagOf, Said as Text·Said}
 use Rattle.text_meaning.specs.declared.TextAnswer.{TextAnswer}
@@ -37,17 +32,10 @@ use Rattle.jobs.specs.Stream.{tailOf}
 use Rattle.jobs.specs.declared.StreamIndex.{StreamIndex}
 use Rattle.jobs.specs.declared.StreamJob.{StreamJob}
 use Rattle.jobs.specs.declared.StreamTail.{StreamTail}
-use Rattle.replies.specs.Reply.{markAt, markedFrom, marked, Reply, plain, lutAnswer, lutReply, curveReply, stringReply, viewReply, viewText, entryAt, smallOf, replyOf, answerOf, Said}
-use Rattle.replies.specs.Texts.{lutText, stringText, entryText, lentText}
-use Rattle.replies.specs.Words.{absentWord, refusedText, mftWord, abmWord}
-
--- a result v of a reader has the text of the answer that it stands for
-pub arm : {R A : Type 0} (paper : R → A) (text : A → List ℕ) {r v : R} {a : A} {k l : List ℕ} {end : ℕ} → paper r ≡ a → r ≡ v → Wrote k l 0 end (text (paper v)) → Wrote k l 0 end (text a)
-arm paper text h e w = rw (← h, e) w
-
-pub refused-wrote : (why : Refusal) (n : ℕ) {k l m : List ℕ} {b c : ℕ} → n ≡ numberOf why → Wrote k l 0 b (0x72 ∷ 0x65 ∷ 0x66 ∷ 0x75 ∷ 0x73 ∷ 0x65 ∷ 0x64 ∷ []) → Wrote l m b c (number 0x20 n) → Wrote k m 0 c (refusedText (numberOf why))
-unfolding refusedText
-refused-wrote why n e u v = rw (← e) (joined u v)
+use Rattle.replies.specs.Reply.{markAt, markedFrom, marked, Reply, plain, lutAnswer, lutReply, stringReply, viewReply, viewText, entryAt, replyOf, answerOf, Said}
+use Rattle.plain_replies.specs.Plain.{plainOf}
+use Rattle.plain_replies.specs.Words.{refusedText}
+use Rattle.replies.specs.Texts.{lutText, stringText, lentText}
 
 -- ---- the words lent are set
 
@@ -117,23 +105,8 @@ module _ (job : StreamJob) (p : List ℕ) (place : Place) (end : ℕ) (c : end �
   pub same-tag : (from to : ℕ) → place ≡ In from to → take (to - from) (drop from p) ≡ tagOf p (job .offset) (job .size)
   same-tag from to e = let i = inside _ _ _ h e in rw (i .from-is, i .to-is, part-is p (job .offset) end, c)
 
-module _ (job : StreamJob) (p w b : List ℕ) (index : StreamIndex) {k l : List ℕ} {r : ℕ} where
-  module _ {got : Lut} {after : List ℕ} (s : Lut·Said Crate (job .entries) (tagOf p (job .offset) (job .size)) (lutAnswer job p w Crate) got w after) where
-    pub view-mft : {t : List ℕ} (f : MftTable) → t ≡ tagOf p (job .offset) (job .size) → got .answer ≡ LutAnswer.Mft f → Wrote k l 0 r (entryText (entryAt (stateFrom (got .answer)) t b index)) → Said (viewReply job p w b index) k l after r
-    unfolding viewText
-    view-mft f g e u = record { written = rw (← s .answer-is, e) (rw (g, e) at u); left-is = s .left-is }
-
-    pub view-abm : {t : List ℕ} (f : AbmTable) → t ≡ tagOf p (job .offset) (job .size) → got .answer ≡ LutAnswer.Abm f → Wrote k l 0 r (entryText (entryAt (stateFrom (got .answer)) t b index)) → Said (viewReply job p w b index) k l after r
-    unfolding viewText
-    view-abm f g e u = record { written = rw (← s .answer-is, e) (rw (g, e) at u); left-is = s .left-is }
-
-    pub view-absent : got .answer ≡ LutAnswer.Absent → Wrote k l 0 r absentWord → Said (viewReply job p w b index) k l after r
-    unfolding viewText
-    view-absent e u = record { written = rw (← s .answer-is, e) u; left-is = s .left-is }
-
-    pub view-refused : (why : Refusal) → got .answer ≡ LutAnswer.Refused why → Wrote k l 0 r (refusedText (numberOf why)) → Said (viewReply job p w b index) k l after r
-    unfolding viewText
-    view-refused why e u = record { written = rw (← s .answer-is, e) u; left-is = s .left-is }
+pub view-said : (job : StreamJob) (p w b : List ℕ) (index : StreamIndex) {k l t after : List ℕ} {r : ℕ} {got : Lut} → Lut·Said Crate (job .entries) (tagOf p (job .offset) (job .size)) (lutAnswer job p w Crate) got w after → t ≡ tagOf p (job .offset) (job .size) → Wrote k l 0 r (viewText (stateFrom (got .answer)) t b index) → Said (viewReply job p w b index) k l after r
+view-said job p w b index s g u = record { written = rw (← s .answer-is) (rw g at u); left-is = s .left-is }
 
 -- ---- by the reader
 
@@ -146,10 +119,6 @@ module _ (job : StreamJob) (p w b : List ℕ) (index : StreamIndex) where
   unfolding replyOf
   by-1 e = rw e
 
-  pub by-2 : job .reader ≡ 2 → curveReply job p w Crate ≡ replyOf job p w b index
-  unfolding replyOf
-  by-2 e = rw e
-
   pub by-3 : job .reader ≡ 3 → stringReply job p w ≡ replyOf job p w b index
   unfolding replyOf
   by-3 e = rw e
@@ -158,17 +127,13 @@ module _ (job : StreamJob) (p w b : List ℕ) (index : StreamIndex) where
   unfolding replyOf
   by-11 e = rw e
 
-  pub by-12 : job .reader ≡ 12 → curveReply job p w Book ≡ replyOf job p w b index
-  unfolding replyOf
-  by-12 e = rw e
-
   pub by-13 : job .reader ≡ 13 → viewReply job p w b index ≡ replyOf job p w b index
   unfolding replyOf
   by-13 e = rw e
 
-  pub by-others : (job .reader ≡ 1 → ⊥) → (job .reader ≡ 2 → ⊥) → (job .reader ≡ 3 → ⊥) → (job .reader ≡ 11 → ⊥) → (job .reader ≡ 12 → ⊥) → (job .reader ≡ 13 → ⊥) → plain job p w (smallOf job p) ≡ replyOf job p w b index
+  pub by-others : (job .reader ≡ 1 → ⊥) → (job .reader ≡ 3 → ⊥) → (job .reader ≡ 11 → ⊥) → (job .reader ≡ 13 → ⊥) → plain job p w (plainOf job p) ≡ replyOf job p w b index
   unfolding replyOf
-  by-others n1 n2 n3 n11 n12 n13 = simp (ne-eqb _ _ n1, ne-eqb _ _ n2, ne-eqb _ _ n3, ne-eqb _ _ n11, ne-eqb _ _ n12, ne-eqb _ _ n13)
+  by-others n1 n3 n11 n13 = simp (ne-eqb _ _ n1, ne-eqb _ _ n3, ne-eqb _ _ n11, ne-eqb _ _ n13)
 
 -- ---- the whole line
 

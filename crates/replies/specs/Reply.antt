@@ -5,8 +5,7 @@ use mathlib.Core.Bool.{cond}
 use mathlib.Core.List.{List, [], _∷_, _++_}
 use lib.Dec.{eqb}
 use lib.ListN.{length, take, drop}
-use Rattle.lines.specs.Text.{Wrote, numerals, numbers}
-use Rattle.curve.specs.Curve.{trcOf}
+use Rattle.lines.specs.Text.{Wrote}
 use Rattle.curve.specs.declared.Walk.{Walk}
 use Rattle.curve.specs.declared.Walk.the-variants.{Crate, Book}
 use Rattle.run.specs.Run.{recordsOf}
@@ -17,15 +16,15 @@ use Rattle.lut_meaning.specs.Parts.{curvesOf}
 use Rattle.text_meaning.specs.Answer.{leftBy as Text·leftBy}
 use Rattle.text_meaning.specs.Mluc.{recordsIn, wordsIn}
 use Rattle.text_meaning.specs.Text.{stringOf, tagOf as Text·tagOf}
-use Rattle.small_meaning.specs.Small.{chadOf, sigOf, dateOf, measOf, viewOf, xyzOf, cicpOf}
 use Rattle.table.specs.Answer.{Told}
 use Rattle.table.specs.View.{tableBy, numbersOf, entryOf}
 use Rattle.jobs.specs.Stream.{tailOf}
 use Rattle.jobs.specs.declared.StreamIndex.{StreamIndex}
 use Rattle.jobs.specs.declared.StreamJob.{StreamJob}
 use Rattle.jobs.specs.declared.StreamTail.{StreamTail}
-use Rattle.replies.specs.Texts.{curveText, lutText, stringText, smallText, measured, viewed, entryText, lentText}
-use Rattle.replies.specs.Words.{absentWord, refusedText}
+use Rattle.plain_replies.specs.Plain.{plainOf}
+use Rattle.plain_replies.specs.Words.{absentWord, refusedText}
+use Rattle.replies.specs.Texts.{lutText, stringText, entryText, lentText}
 
 -- the words lent, as they are set before a call: word i is 0xA5A50000 + i, and i is below 8,192
 abbrev pub markAt : ℕ → ℕ
@@ -65,9 +64,6 @@ module _ (job : StreamJob) (profile words : List ℕ) where
   abbrev pub lutReply : Walk → Reply
   lutReply walk = lent (lutText (lutAnswer walk)) (lutLeft walk)
 
-  abbrev pub curveReply : Walk → Reply
-  curveReply walk = plain (curveText (trcOf walk (job .entries) profile (job .offset) (job .size)))
-
   abbrev pub stringReply : Reply
   stringReply =
       let a = stringOf profile (job .offset) (job .size) (length words) in
@@ -90,29 +86,15 @@ abbrev pub viewReply : StreamJob → List ℕ → List ℕ → List ℕ → Stre
 viewReply job profile words behind index =
     record { text = viewText (lutAnswer job profile words Crate .state) (lutTag job profile words) behind index; left = lutLeft job profile words Crate }
 
--- the small readers
-unfoldable pub smallOf : StreamJob → List ℕ → List ℕ
-smallOf job profile =
-    let r = job .reader in
-    cond (eqb r 4) (smallText numerals (chadOf profile (job .offset) (job .size))) (
-    cond (eqb r 5) (smallText numbers (sigOf profile (job .offset) (job .size))) (
-    cond (eqb r 6) (smallText numbers (dateOf profile (job .offset) (job .size))) (
-    cond (eqb r 7) (smallText measured (measOf profile (job .offset) (job .size))) (
-    cond (eqb r 8) (smallText viewed (viewOf profile (job .offset) (job .size))) (
-    cond (eqb r 9) (smallText numerals (xyzOf profile (job .offset) (job .size))) (
-    smallText numbers (cicpOf profile (job .offset) (job .size))))))))
-
 -- by the reader that a job names: 1 to 13
 unfoldable pub replyOf : StreamJob → List ℕ → List ℕ → List ℕ → StreamIndex → Reply
 replyOf job profile words behind index =
     let r = job .reader in
     cond (eqb r 1) (lutReply job profile words Crate) (
-    cond (eqb r 2) (curveReply job profile words Crate) (
     cond (eqb r 3) (stringReply job profile words) (
     cond (eqb r 11) (lutReply job profile words Book) (
-    cond (eqb r 12) (curveReply job profile words Book) (
     cond (eqb r 13) (viewReply job profile words behind index) (
-    plain job profile words (smallOf job profile)))))))
+    plain job profile words (plainOf job profile)))))
 
 -- a line ends; a bad job has none
 abbrev pub answerTo : StreamTail → StreamJob → List ℕ → List ℕ → List ℕ → Reply

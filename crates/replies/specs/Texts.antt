@@ -1,25 +1,16 @@
--- The text of each reader's answer, without the end of the line: its numbers in decimal, each behind a space.
+-- The text of the answers of the readers that are lent words, without the end of the line: numbers in decimal, each behind a space.
 use Prim.Native.Nat.{ℕ}
 use mathlib.Core.List.{List, [], _∷_, _++_}
-use lib.ListN.{take, drop}
 use Rattle.lines.specs.Text.{number, numerals, numbers}
-use Rattle.curve.specs.Answer.{Answer as Curve·Answer}
 use Rattle.lut_meaning.specs.Answer.{State, Answer as Lut·Answer}
 use Rattle.text_meaning.specs.Answer.{Span, Answer as Text·Answer}
-use Rattle.small_meaning.specs.Answer.{Answer as Small·Answer}
 use Rattle.table.specs.Answer.{Told}
-use Rattle.jobs.specs.CurveLine.{recordText}
-use Rattle.replies.specs.Words.{valueWord, absentWord, defaultWord, refusedText, textWord, descWord, mlucWord, mftWord, abmWord, bar}
+use Rattle.plain_replies.specs.Words.{valueWord, absentWord, refusedText}
+use Rattle.replies.specs.Words.{textWord, descWord, mlucWord, mftWord, abmWord, bar}
 
 -- a start and a length
 unfoldable pub rangeText : ℕ → ℕ → List ℕ
 rangeText start bytes = number 0x20 start ++ number 0x20 bytes
-
--- the tone curve: the record's words, the parameters signed, and the consumed size
-unfoldable pub curveText : Curve·Answer → List ℕ
-curveText (Curve·Answer.value ws consumed) = valueWord ++ recordText 0x20 ws ++ number 0x20 consumed
-curveText Curve·Answer.absent = absentWord
-curveText (Curve·Answer.refused n) = refusedText n
 
 -- lookup tables; the numbers of matrix and bias are signed
 unfoldable pub stateText : State → List ℕ → List ℕ → List ℕ → List ℕ
@@ -43,20 +34,6 @@ stringText (Text·Answer.desc s u) =
 stringText (Text·Answer.mluc n) = mlucWord ++ number 0x20 n
 stringText Text·Answer.absent = absentWord
 stringText (Text·Answer.refused n) = refusedText n
-
--- the small readers, whose fields are signed or not
-unfoldable pub smallText : (List ℕ → List ℕ) → Small·Answer → List ℕ
-smallText fields (Small·Answer.value ws) = valueWord ++ fields ws
-smallText fields Small·Answer.default = defaultWord
-smallText fields Small·Answer.absent = absentWord
-smallText fields (Small·Answer.refused n) = refusedText n
-
--- of `meas` the backing is signed, of `view` all but the last number
-unfoldable pub measured : List ℕ → List ℕ
-measured ws = numbers (take 1 ws) ++ numerals (take 3 (drop 1 ws)) ++ numbers (drop 4 ws)
-
-unfoldable pub viewed : List ℕ → List ℕ
-viewed ws = numerals (take 6 ws) ++ numbers (drop 6 ws)
 
 -- the table view
 unfoldable pub entryText : Told → List ℕ

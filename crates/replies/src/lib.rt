@@ -1,6 +1,4 @@
 // The lines of the program `answers`: a job whose bytes are read is answered in a lent buffer.
-mod curves;
-mod smalls;
 mod tables;
 mod texts;
 mod told;
@@ -40,12 +38,10 @@ fn answer(
     let reader = job.reader;
     match reader {
         1 => tables::answer(profile, job, Walk::Crate, words, line),
-        2 => curves::answer(profile, job, Walk::Crate, line),
         3 => texts::answer(profile, job, words, line),
         11 => tables::answer(profile, job, Walk::Book, words, line),
-        12 => curves::answer(profile, job, Walk::Book, line),
         13 => tables::view(profile, job, behind, index, words, line),
-        _ => smalls::answer(profile, job, line),
+        _ => plain_replies::answer_plain(profile, job, line),
     }
 }
 

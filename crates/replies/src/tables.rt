@@ -8,7 +8,6 @@ use fields::Refusal;
 use jobs::StreamIndex;
 use jobs::StreamJob;
 use lut::AbmTable;
-use lut::Lut;
 use lut::LutAnswer;
 use mft::MftTable;
 use table::EntryAnswer;
@@ -17,10 +16,10 @@ ghost use mathlib.Core.Path.{_≡_};
 ghost use Rattle.lines.specs.Text.{Wrote};
 ghost use Rattle.jobs.specs.Stream.{tailOf};
 ghost use Rattle.jobs.specs.declared.StreamTail.{StreamTail};
-ghost use Rattle.lut_meaning.specs.Answer.{paper, mft as State·mft, abm as State·abm, stateFrom, tableFrom};
+ghost use Rattle.lut_meaning.specs.Answer.{mft as State·mft, abm as State·abm, stateFrom, tableFrom};
 ghost use Rattle.mft.specs.Answer.{fieldsFrom};
-ghost use Rattle.replies.specs.Reply.{entryAt, lutReply, viewReply, Said};
-ghost use Rattle.replies.specs.Texts.{stateText, lutText, entryText};
+ghost use Rattle.replies.specs.Reply.{entryAt, lutReply, viewReply, viewText, Said};
+ghost use Rattle.replies.specs.Texts.{stateText, entryText};
 ghost use Rattle.replies.specs.Words.{mftWord, abmWord};
 
 fn put_mft_kind(line: &mut [u8], size: u8) -> usize
@@ -73,18 +72,20 @@ fn put_abm(line: &mut [u8], t: AbmTable, grid: &[u8], matrix: &[u32], bias: &[u3
     lines::put_numbers(line, clut, &parts)
 }
 
-fn put_answer(line: &mut [u8], got: Lut) -> usize
-    ensures { λ r. ⌜ Wrote (now (line .entry)) (now (line .exit)) 0 r (lutText (paper got)) ⌝ }
+fn put_answer(
+    line: &mut [u8],
+    answer: LutAnswer,
+    grid: &[u8],
+    matrix: &[u32],
+    bias: &[u32],
+) -> usize
+    ensures { λ r. ⌜ Wrote (now (line .entry)) (now (line .exit)) 0 r (stateText (stateFrom answer) (now (grid .entry)) (now (matrix .entry)) (now (bias .entry))) ⌝ }
 {
-    let answer = got.answer;
-    let grid = got.grid;
-    let matrix = got.matrix;
-    let bias = got.bias;
     match answer {
-        LutAnswer::Mft(t) => put_mft(line, t, &matrix),
-        LutAnswer::Abm(t) => put_abm(line, t, &grid, &matrix, &bias),
+        LutAnswer::Mft(t) => put_mft(line, t, matrix),
+        LutAnswer::Abm(t) => put_abm(line, t, grid, matrix, bias),
         LutAnswer::Absent => lines::put(line, 0, b"absent"),
-        LutAnswer::Refused(why) => told::put_refused(line, why),
+        LutAnswer::Refused(why) => plain_replies::put_refused(line, why),
     }
 }
 
@@ -106,7 +107,11 @@ pub(crate) fn answer(
         walk,
         words,
     );
-    let said = put_answer(line, got);
+    let answer = got.answer;
+    let grid = got.grid;
+    let matrix = got.matrix;
+    let bias = got.bias;
+    let said = put_answer(line, answer, &grid, &matrix, &bias);
     told::put_lent(line, said, words)
 }
 
@@ -143,6 +148,26 @@ fn put_entry(
     }
 }
 
+// The entry, or why there is no table.
+fn put_view(
+    line: &mut [u8],
+    tag: &[u8],
+    answer: LutAnswer,
+    job: StreamJob,
+    behind: &[u8],
+    index: StreamIndex,
+) -> usize
+    requires { ⌜ tailOf (job .reader) (now behind) ≡ StreamTail.Index index ⌝ }
+    ensures { λ r. ⌜ Wrote (now (line .entry)) (now (line .exit)) 0 r (viewText (stateFrom answer) (now (tag .entry)) (now (behind .entry)) index) ⌝ }
+{
+    match answer {
+        LutAnswer::Mft(_) => put_entry(line, tag, answer, job, behind, index),
+        LutAnswer::Abm(_) => put_entry(line, tag, answer, job, behind, index),
+        LutAnswer::Absent => lines::put(line, 0, b"absent"),
+        LutAnswer::Refused(why) => plain_replies::put_refused(line, why),
+    }
+}
+
 // Reads the table on the crate walk, and then the entry. The words lent are those of the table's reader.
 pub(crate) fn view(
     profile: &[u8],
@@ -158,7 +183,7 @@ pub(crate) fn view(
     let size = fields::counted_size(job.size);
     let place = fields::locate(profile, Entry(job.offset), InTag(size as u64));
     let Place::In { from, to } = place else {
-        return told::put_refused(line, Refusal::PastProfile);
+        return plain_replies::put_refused(line, Refusal::PastProfile);
     };
     let got = lut::read_lut_tag(
         profile,
@@ -170,10 +195,5 @@ pub(crate) fn view(
         words,
     );
     let answer = got.answer;
-    match answer {
-        LutAnswer::Mft(_) => put_entry(line, &profile[from..to], answer, job, behind, index),
-        LutAnswer::Abm(_) => put_entry(line, &profile[from..to], answer, job, behind, index),
-        LutAnswer::Absent => lines::put(line, 0, b"absent"),
-        LutAnswer::Refused(why) => told::put_refused(line, why),
-    }
+    put_view(line, &profile[from..to], answer, job, behind, index)
 }

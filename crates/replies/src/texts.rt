@@ -34,7 +34,7 @@ fn put_answer(line: &mut [u8], got: TextAnswer) -> usize
             lines::put_number(line, word, b' ', records as u64)
         }
         TextAnswer::Absent => lines::put(line, 0, b"absent"),
-        TextAnswer::Refused(why) => told::put_refused(line, why),
+        TextAnswer::Refused(why) => plain_replies::put_refused(line, why),
     }
 }
 

@@ -1,17 +1,7 @@
-// What the texts of all answers share. Each is put at the start of a line, and its caller puts the line's end behind it.
+// What the texts of the answers share.
 use fields::InTag;
-use fields::Refusal;
-ghost use Rattle.fields.specs.Refusals.{numberOf};
 ghost use Rattle.lines.specs.Text.{Wrote};
 ghost use Rattle.replies.specs.Texts.{rangeText, lentText};
-ghost use Rattle.replies.specs.Words.{refusedText};
-
-pub(crate) fn put_refused(line: &mut [u8], why: Refusal) -> usize
-    ensures { λ r. ⌜ Wrote (now (line .entry)) (now (line .exit)) 0 r (refusedText (numberOf why)) ⌝ }
-{
-    let word = lines::put(line, 0, b"refused");
-    lines::put_number(line, word, b' ', why.number() as u64)
-}
 
 // A start and a length.
 pub(crate) fn put_range(line: &mut [u8], at: usize, start: InTag, length: u64) -> usize

@@ -2,7 +2,7 @@
 -- Assumes nothing.
 use borrow.Author.Needs.{needs}
 use mathlib.Core.Path.{refl}
-use Rattle.replies.proofs.Laws.{replied, by-1, by-2, by-3, by-11, by-12, by-13, by-others}
+use Rattle.replies.proofs.Laws.{replied, by-1, by-3, by-11, by-13, by-others}
 use Rattle.replies.proofs.answer.Statement.{statement}
 use Rattle.replies.proofs.answer.Tie as tie
 
@@ -15,23 +15,17 @@ answer-spec =
     (λ c κs. search needs)
     (λ c κs. search needs)
     (λ c κs. search needs)
-    (λ c κs. search needs)
-    (λ c κs. search needs)
     (λ c. search needs)
     (λ c. search needs)
     (λ c. replied (c .before .before .before .before .before .before .before .before .before .before .before .before .args .job) (c .before .before .before .before .before .before .before .before .before .before .before .before .args .profile .now) (c .before .before .before .before .before .before .before .before .before .before .before .before .args .words .now) (c .before .before .before .before .before .before .before .before .before .before .before .before .args .behind .now) (c .before .before .before .before .before .before .before .before .before .before .before .before .args .index) (by-1 (c .before .before .before .before .before .before .before .before .before .before .before .before .args .job) (c .before .before .before .before .before .before .before .before .before .before .before .before .args .profile .now) (c .before .before .before .before .before .before .before .before .before .before .before .before .args .words .now) (c .before .before .before .before .before .before .before .before .before .before .before .before .args .behind .now) (c .before .before .before .before .before .before .before .before .before .before .before .before .args .index) (c .before .before .before .before .before .before .before .match .keys1)) (c .before .before .before .before .answer .ensures))
     (λ c. search needs)
-    (λ c. replied (c .before .before .before .before .before .before .before .before .before .args .job) (c .before .before .before .before .before .before .before .before .before .args .profile .now) (c .before .before .before .before .before .before .before .before .before .args .words .now) (c .before .before .before .before .before .before .before .before .before .args .behind .now) (c .before .before .before .before .before .before .before .before .before .args .index) (by-2 (c .before .before .before .before .before .before .before .before .before .args .job) (c .before .before .before .before .before .before .before .before .before .args .profile .now) (c .before .before .before .before .before .before .before .before .before .args .words .now) (c .before .before .before .before .before .before .before .before .before .args .behind .now) (c .before .before .before .before .before .before .before .before .before .args .index) (c .before .before .before .before .match .keys2)) record { written = c .before .before .answer2 .ensures; left-is = refl })
+    (λ c. search needs)
+    (λ c. replied (c .before .before .before .before .before .before .before .before .before .before .before .before .args .job) (c .before .before .before .before .before .before .before .before .before .before .before .before .args .profile .now) (c .before .before .before .before .before .before .before .before .before .before .before .before .args .words .now) (c .before .before .before .before .before .before .before .before .before .before .before .before .args .behind .now) (c .before .before .before .before .before .before .before .before .before .before .before .before .args .index) (by-3 (c .before .before .before .before .before .before .before .before .before .before .before .before .args .job) (c .before .before .before .before .before .before .before .before .before .before .before .before .args .profile .now) (c .before .before .before .before .before .before .before .before .before .before .before .before .args .words .now) (c .before .before .before .before .before .before .before .before .before .before .before .before .args .behind .now) (c .before .before .before .before .before .before .before .before .before .before .before .before .args .index) (c .before .before .before .before .before .before .before .match .keys2)) (c .before .before .before .before .answer2 .ensures))
     (λ c. search needs)
     (λ c. search needs)
-    (λ c. replied (c .before .before .before .before .before .before .before .before .before .before .before .before .args .job) (c .before .before .before .before .before .before .before .before .before .before .before .before .args .profile .now) (c .before .before .before .before .before .before .before .before .before .before .before .before .args .words .now) (c .before .before .before .before .before .before .before .before .before .before .before .before .args .behind .now) (c .before .before .before .before .before .before .before .before .before .before .before .before .args .index) (by-3 (c .before .before .before .before .before .before .before .before .before .before .before .before .args .job) (c .before .before .before .before .before .before .before .before .before .before .before .before .args .profile .now) (c .before .before .before .before .before .before .before .before .before .before .before .before .args .words .now) (c .before .before .before .before .before .before .before .before .before .before .before .before .args .behind .now) (c .before .before .before .before .before .before .before .before .before .before .before .before .args .index) (c .before .before .before .before .before .before .before .match .keys3)) (c .before .before .before .before .answer3 .ensures))
+    (λ c. replied (c .before .before .before .before .before .before .before .before .before .before .before .before .args .job) (c .before .before .before .before .before .before .before .before .before .before .before .before .args .profile .now) (c .before .before .before .before .before .before .before .before .before .before .before .before .args .words .now) (c .before .before .before .before .before .before .before .before .before .before .before .before .args .behind .now) (c .before .before .before .before .before .before .before .before .before .before .before .before .args .index) (by-11 (c .before .before .before .before .before .before .before .before .before .before .before .before .args .job) (c .before .before .before .before .before .before .before .before .before .before .before .before .args .profile .now) (c .before .before .before .before .before .before .before .before .before .before .before .before .args .words .now) (c .before .before .before .before .before .before .before .before .before .before .before .before .args .behind .now) (c .before .before .before .before .before .before .before .before .before .before .before .before .args .index) (c .before .before .before .before .before .before .before .match .keys3)) (c .before .before .before .before .answer3 .ensures))
     (λ c. search needs)
     (λ c. search needs)
-    (λ c. replied (c .before .before .before .before .before .before .before .before .before .before .before .before .args .job) (c .before .before .before .before .before .before .before .before .before .before .before .before .args .profile .now) (c .before .before .before .before .before .before .before .before .before .before .before .before .args .words .now) (c .before .before .before .before .before .before .before .before .before .before .before .before .args .behind .now) (c .before .before .before .before .before .before .before .before .before .before .before .before .args .index) (by-11 (c .before .before .before .before .before .before .before .before .before .before .before .before .args .job) (c .before .before .before .before .before .before .before .before .before .before .before .before .args .profile .now) (c .before .before .before .before .before .before .before .before .before .before .before .before .args .words .now) (c .before .before .before .before .before .before .before .before .before .before .before .before .args .behind .now) (c .before .before .before .before .before .before .before .before .before .before .before .before .args .index) (c .before .before .before .before .before .before .before .match .keys4)) (c .before .before .before .before .answer4 .ensures))
+    (λ c. replied (c .before .before .before .before .before .before .before .before .before .before .before .before .args .job) (c .before .before .before .before .before .before .before .before .before .before .before .before .args .profile .now) (c .before .before .before .before .before .before .before .before .before .before .before .before .args .words .now) (c .before .before .before .before .before .before .before .before .before .before .before .before .args .behind .now) (c .before .before .before .before .before .before .before .before .before .before .before .before .args .index) (by-13 (c .before .before .before .before .before .before .before .before .before .before .before .before .args .job) (c .before .before .before .before .before .before .before .before .before .before .before .before .args .profile .now) (c .before .before .before .before .before .before .before .before .before .before .before .before .args .words .now) (c .before .before .before .before .before .before .before .before .before .before .before .before .args .behind .now) (c .before .before .before .before .before .before .before .before .before .before .before .before .args .index) (c .before .before .before .before .before .before .before .match .keys4)) (c .before .before .before .before .view .ensures))
     (λ c. search needs)
-    (λ c. replied (c .before .before .before .before .before .before .before .before .before .args .job) (c .before .before .before .before .before .before .before .before .before .args .profile .now) (c .before .before .before .before .before .before .before .before .before .args .words .now) (c .before .before .before .before .before .before .before .before .before .args .behind .now) (c .before .before .before .before .before .before .before .before .before .args .index) (by-12 (c .before .before .before .before .before .before .before .before .before .args .job) (c .before .before .before .before .before .before .before .before .before .args .profile .now) (c .before .before .before .before .before .before .before .before .before .args .words .now) (c .before .before .before .before .before .before .before .before .before .args .behind .now) (c .before .before .before .before .before .before .before .before .before .args .index) (c .before .before .before .before .match .keys5)) record { written = c .before .before .answer5 .ensures; left-is = refl })
-    (λ c. search needs)
-    (λ c. search needs)
-    (λ c. replied (c .before .before .before .before .before .before .before .before .before .before .before .before .args .job) (c .before .before .before .before .before .before .before .before .before .before .before .before .args .profile .now) (c .before .before .before .before .before .before .before .before .before .before .before .before .args .words .now) (c .before .before .before .before .before .before .before .before .before .before .before .before .args .behind .now) (c .before .before .before .before .before .before .before .before .before .before .before .before .args .index) (by-13 (c .before .before .before .before .before .before .before .before .before .before .before .before .args .job) (c .before .before .before .before .before .before .before .before .before .before .before .before .args .profile .now) (c .before .before .before .before .before .before .before .before .before .before .before .before .args .words .now) (c .before .before .before .before .before .before .before .before .before .before .before .before .args .behind .now) (c .before .before .before .before .before .before .before .before .before .before .before .before .args .index) (c .before .before .before .before .before .before .before .match .keys6)) (c .before .before .before .before .view .ensures))
-    (λ c. search needs)
-    (λ c. replied (c .before .before .before .before .before .before .before .before .before .args .job) (c .before .before .before .before .before .before .before .before .before .args .profile .now) (c .before .before .before .before .before .before .before .before .before .args .words .now) (c .before .before .before .before .before .before .before .before .before .args .behind .now) (c .before .before .before .before .before .before .before .before .before .args .index) (by-others (c .before .before .before .before .before .before .before .before .before .args .job) (c .before .before .before .before .before .before .before .before .before .args .profile .now) (c .before .before .before .before .before .before .before .before .before .args .words .now) (c .before .before .before .before .before .before .before .before .before .args .behind .now) (c .before .before .before .before .before .before .before .before .before .args .index) (c .before .before .before .before .match .rest .0 .0 .0 .0 .0 .1) (c .before .before .before .before .match .rest .0 .0 .0 .0 .1) (c .before .before .before .before .match .rest .0 .0 .0 .1) (c .before .before .before .before .match .rest .0 .0 .1) (c .before .before .before .before .match .rest .0 .1) (c .before .before .before .before .match .rest .1)) record { written = c .before .before .answer6 .ensures; left-is = refl }))
+    (λ c. replied (c .before .before .before .before .before .before .before .before .before .args .job) (c .before .before .before .before .before .before .before .before .before .args .profile .now) (c .before .before .before .before .before .before .before .before .before .args .words .now) (c .before .before .before .before .before .before .before .before .before .args .behind .now) (c .before .before .before .before .before .before .before .before .before .args .index) (by-others (c .before .before .before .before .before .before .before .before .before .args .job) (c .before .before .before .before .before .before .before .before .before .args .profile .now) (c .before .before .before .before .before .before .before .before .before .args .words .now) (c .before .before .before .before .before .before .before .before .before .args .behind .now) (c .before .before .before .before .before .before .before .before .before .args .index) (c .before .before .before .before .match .rest .0 .0 .0 .1) (c .before .before .before .before .match .rest .0 .0 .1) (c .before .before .before .before .match .rest .0 .1) (c .before .before .before .before .match .rest .1)) record { written = c .before .before .answer-plain .ensures; left-is = refl }))

@@ -10,8 +10,11 @@ answer-spec =
     tie.close
     (tie.spec
     (λ c κs. search needs)
+    (λ c. search needs)
+    (λ c. search needs)
+    (λ c. search needs)
     (λ c κs. search needs)
     (λ c κs. search needs)
     (λ c. search needs)
     (λ c. search needs)
-    (λ c. lut-said (c .before .before .before .before .before .before .before .before .before .before .before .before .before .before .before .before .args .job) _ _ _ (c .before .before .before .before .before .before .before .before .before .before .before .read-lut-tag .ensures) (c .before .before .before .before .before .before .before .put-answer .ensures) (c .before .before .put-lent .ensures)))
+    (λ c. lut-said (c .before .before .before .before .before .before .before .before .before .before .before .before .before .before .before .before .before .before .before .before .before .before .args .job) _ _ _ (c .before .before .before .before .before .before .before .before .before .before .before .before .before .before .before .before .before .read-lut-tag .ensures) (c .before .before .before .before .before .before .before .put-answer .ensures) (c .before .before .put-lent .ensures)))

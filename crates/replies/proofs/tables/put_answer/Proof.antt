@@ -11,11 +11,7 @@ put-answer-spec =
     tie.close
     (tie.spec
     (λ c. search needs)
-    (λ c. search needs)
     (λ c κs. search needs)
-    (λ c. search needs)
-    (λ c. search needs)
-    (λ c. search needs)
     (λ c. search needs)
     (λ c κs. search needs)
     (λ c. search needs)
@@ -24,9 +20,9 @@ put-answer-spec =
     (λ c. search needs)
     (λ c κs. search needs)
     (λ c. search needs)
-    (λ c. rw (c .before .before .before .before .before .before .answer .given .1) (c .before .before .put-mft .ensures))
+    (λ c. rw (c .before .before .before .before .before .answer .given .1) (c .before .before .put-mft .ensures))
     (λ c. search needs)
-    (λ c. rw (c .before .before .before .before .before .before .before .before .answer2 .given .1) (c .before .before .put-abm .ensures))
+    (λ c. rw (c .before .before .before .before .before .answer2 .given .1) (c .before .before .put-abm .ensures))
     (λ c. search needs)
     (λ c. rw (c .before .before .before .before .before .enum-told .given .1) (c .before .before .put .ensures))
     (λ c. search needs)

@@ -5,7 +5,8 @@ use Rattle.table.specs.Answer.{paper}
 use Rattle.lines.proofs.Writing.{joined}
 use Rattle.replies.specs.Reply.{entryAt}
 use Rattle.replies.specs.Texts.{entryText}
-use Rattle.replies.proofs.Laws.{arm, entry-is, tail-room}
+use Rattle.plain_replies.proofs.Laws.{arm}
+use Rattle.replies.proofs.Laws.{entry-is, tail-room}
 use Rattle.replies.proofs.tables.put_entry.Statement.{statement}
 use Rattle.replies.proofs.tables.put_entry.Tie as tie
 

@@ -2,7 +2,7 @@
 -- Assumes nothing.
 use borrow.Author.Needs.{needs}
 use Rattle.fields.proofs.Located.{begins, starts, ends}
-use Rattle.replies.proofs.Laws.{same-tag, view-past, view-mft, view-abm, view-absent, view-refused}
+use Rattle.replies.proofs.Laws.{same-tag, view-past, view-said}
 use Rattle.replies.proofs.tables.view.Statement.{statement}
 use Rattle.replies.proofs.tables.view.Tie as tie
 
@@ -19,30 +19,10 @@ view-spec =
     (λ c. search needs)
     (λ c. view-past (c .before .before .before .before .before .before .before .before .before .before .before .before .args .job) (c .before .before .before .before .before .before .before .before .before .before .before .before .args .profile .now) _ _ (c .before .before .before .before .before .before .before .counted-size .ensures) (c .before .before .before .before .before .before .locate .ensures) (c .before .before .before .before .before .before .before .before .before .before .before .before .args .words .now) (c .before .before .before .before .before .before .before .before .before .before .before .before .args .behind .now) (c .before .before .before .before .before .before .before .before .before .before .before .before .args .index) (c .before .before .before .before .enum-told .given .1) (c .before .before .put-refused .ensures))
     (λ c κs. search needs)
-    (λ c. search needs)
-    (λ c. search (needs, begins, starts, ends))
-    (λ c. search (needs, begins, starts, ends))
-    (λ c. search (needs, begins, starts, ends))
-    (λ c κs. search needs)
-    (λ c. search needs)
     (λ c. search (needs, begins, starts, ends))
     (λ c. search (needs, begins, starts, ends))
     (λ c. search (needs, begins, starts, ends))
     (λ c κs. search needs)
     (λ c. search needs)
     (λ c. search needs)
-    (λ c κs. search needs)
-    (λ c. search needs)
-    (λ c κs. search needs)
-    (λ c. search needs)
-    (λ c. search needs)
-    (λ c. view-mft (c .before .before .before .before .before .before .before .before .before .before .before .before .before .before .before .before .before .before .before .before .args .job) (c .before .before .before .before .before .before .before .before .before .before .before .before .before .before .before .before .before .before .before .before .args .profile .now) (c .before .before .before .before .before .before .before .before .before .before .before .before .before .before .before .before .before .before .before .before .args .words .now) (c .before .before .before .before .before .before .before .before .before .before .before .before .before .before .before .before .before .before .before .before .args .behind .now) (c .before .before .before .before .before .before .before .before .before .before .before .before .before .before .before .before .before .before .before .before .args .index) (c .before .before .before .before .before .before .before .before .before .read-lut-tag .ensures) _ (same-tag (c .before .before .before .before .before .before .before .before .before .before .before .before .before .before .before .before .before .before .before .before .args .job) (c .before .before .before .before .before .before .before .before .before .before .before .before .before .before .before .before .before .before .before .before .args .profile .now) _ _ (c .before .before .before .before .before .before .before .before .before .before .before .before .before .before .before .counted-size .ensures) (c .before .before .before .before .before .before .before .before .before .before .before .before .before .before .locate .ensures) _ _ (c .before .before .before .before .before .before .before .before .before .before .before .before .place .given .1)) (c .before .before .before .before .before .enum-told2 .given .1) (c .before .before .put-entry .ensures))
-    (λ c. search needs)
-    (λ c. search needs)
-    (λ c. view-abm (c .before .before .before .before .before .before .before .before .before .before .before .before .before .before .before .before .before .before .before .before .args .job) (c .before .before .before .before .before .before .before .before .before .before .before .before .before .before .before .before .before .before .before .before .args .profile .now) (c .before .before .before .before .before .before .before .before .before .before .before .before .before .before .before .before .before .before .before .before .args .words .now) (c .before .before .before .before .before .before .before .before .before .before .before .before .before .before .before .before .before .before .before .before .args .behind .now) (c .before .before .before .before .before .before .before .before .before .before .before .before .before .before .before .before .before .before .before .before .args .index) (c .before .before .before .before .before .before .before .before .before .read-lut-tag .ensures) _ (same-tag (c .before .before .before .before .before .before .before .before .before .before .before .before .before .before .before .before .before .before .before .before .args .job) (c .before .before .before .before .before .before .before .before .before .before .before .before .before .before .before .before .before .before .before .before .args .profile .now) _ _ (c .before .before .before .before .before .before .before .before .before .before .before .before .before .before .before .counted-size .ensures) (c .before .before .before .before .before .before .before .before .before .before .before .before .before .before .locate .ensures) _ _ (c .before .before .before .before .before .before .before .before .before .before .before .before .place .given .1)) (c .before .before .before .before .before .enum-told3 .given .1) (c .before .before .put-entry2 .ensures))
-    (λ c. search needs)
-    (λ c. search needs)
-    (λ c. view-absent (c .before .before .before .before .before .before .before .before .before .before .before .before .before .before .before .before .before .before .before .before .args .job) (c .before .before .before .before .before .before .before .before .before .before .before .before .before .before .before .before .before .before .before .before .args .profile .now) (c .before .before .before .before .before .before .before .before .before .before .before .before .before .before .before .before .before .before .before .before .args .words .now) (c .before .before .before .before .before .before .before .before .before .before .before .before .before .before .before .before .before .before .before .before .args .behind .now) (c .before .before .before .before .before .before .before .before .before .before .before .before .before .before .before .before .before .before .before .before .args .index) (c .before .before .before .before .before .before .before .before .before .read-lut-tag .ensures) (c .before .before .before .before .before .enum-told4 .given .1) (c .before .before .put .ensures))
-    (λ c. search needs)
-    (λ c. search needs)
-    (λ c. view-refused (c .before .before .before .before .before .before .before .before .before .before .before .before .before .before .before .before .before .before .before .before .args .job) (c .before .before .before .before .before .before .before .before .before .before .before .before .before .before .before .before .before .before .before .before .args .profile .now) (c .before .before .before .before .before .before .before .before .before .before .before .before .before .before .before .before .before .before .before .before .args .words .now) (c .before .before .before .before .before .before .before .before .before .before .before .before .before .before .before .before .before .before .before .before .args .behind .now) (c .before .before .before .before .before .before .before .before .before .before .before .before .before .before .before .before .before .before .before .before .args .index) (c .before .before .before .before .before .before .before .before .before .read-lut-tag .ensures) _ (c .before .before .before .before .before .answer .given .1) (c .before .before .put-refused2 .ensures)))
+    (λ c. view-said (c .before .before .before .before .before .before .before .before .before .before .before .before .before .before .before .before .before .before .args .job) (c .before .before .before .before .before .before .before .before .before .before .before .before .before .before .before .before .before .before .args .profile .now) (c .before .before .before .before .before .before .before .before .before .before .before .before .before .before .before .before .before .before .args .words .now) (c .before .before .before .before .before .before .before .before .before .before .before .before .before .before .before .before .before .before .args .behind .now) (c .before .before .before .before .before .before .before .before .before .before .before .before .before .before .before .before .before .before .args .index) (c .before .before .before .before .before .before .before .read-lut-tag .ensures) (same-tag (c .before .before .before .before .before .before .before .before .before .before .before .before .before .before .before .before .before .before .args .job) (c .before .before .before .before .before .before .before .before .before .before .before .before .before .before .before .before .before .before .args .profile .now) _ _ (c .before .before .before .before .before .before .before .before .before .before .before .before .before .counted-size .ensures) (c .before .before .before .before .before .before .before .before .before .before .before .before .locate .ensures) _ _ (c .before .before .before .before .before .before .before .before .before .before .place .given .1)) (c .before .before .put-view .ensures)))
