@@ -33,15 +33,10 @@ module _ (l : List ℕ) (at : ℕ) (ws : List ℕ) where
     pub done : length ws ≤ i → l' ≡ sets l at ws
     done h = rw (drop-of-length-le ws {i = i} h) at (p .left)
 
--- ---- rows one behind the other: n words in all so far
+-- ---- rows one behind the other
 
-pub record Stored (l m ws : List ℕ) (n : ℕ) : Type 0 where
-  pub many : length ws ≡ n
-  pub is : m ≡ sets l 0 ws
+pub two-rows : (xs ys l m k : List ℕ) (n : ℕ) → length xs ≡ n → m ≡ sets l 0 xs → k ≡ sets m n ys → k ≡ sets l 0 (xs ++ ys)
+two-rows xs ys l m k n e f g = g ∙ rw (f, ← e) (sym (sets-append xs ys l 0 ∙ rw zero-add))
 
-pub one-more : (vs : List ℕ) {l m k ws : List ℕ} {n d : ℕ} → Stored l m ws n → length vs ≡ d → k ≡ sets m n vs → Stored l k (ws ++ vs) (n + d)
-one-more vs {l} {m} {k} {ws} {n} {d} s e f =
-    record {
-      many = length-append ws vs ∙ rw (s .many, e);
-      is = f ∙ rw (s .is, ← s .many) (sym (sets-append ws vs l 0 ∙ rw zero-add));
-    }
+pub three-rows : (l l₁ l₂ l₃ xs ys zs : List ℕ) {n i : ℕ} → length xs ≡ n → length ys ≡ i → l₁ ≡ sets l 0 xs → l₂ ≡ sets l₁ n ys → l₃ ≡ sets l₂ (n + i) zs → l₃ ≡ sets l 0 (xs ++ ys ++ zs)
+three-rows l l₁ l₂ l₃ xs ys zs {n} {i} a b e f g = two-rows (xs ++ ys) zs l l₂ l₃ (n + i) (length-append xs ys ∙ rw (a, b)) (two-rows xs ys l l₁ l₂ n a e f) g

@@ -31,9 +31,7 @@ fn put_curve(out: &mut [u64], c: CurveRecord, consumed: u64)
     requires { ⌜ 11 ≤ length (now out) ⌝ }
     ensures { λ _. ⌜ now (out .exit) ≡ sets (now (out .entry)) 0 (words c ++ (consumed ∷ [])) ⌝ }
 {
-    let ten = [
-        c.kind, c.start, c.count, c.g, c.a, c.b, c.c, c.d, c.e, c.f,
-    ];
+    let ten = [c.kind, c.start, c.count, c.g, c.a, c.b, c.c, c.d, c.e, c.f];
     put::put_words(out, 0, &ten);
     out[10] = consumed;
 }

@@ -37,11 +37,7 @@ const LUT_WORDS: usize = 37;
 fn mft_type(size: u8) -> u32
     ensures { λ r. ⌜ r ≡ cond (eqb size 1) (signatureOf Mft1) (signatureOf Mft2) ⌝ }
 {
-    if size == 1 {
-        Kind::MFT1
-    } else {
-        Kind::MFT2
-    }
+    if size == 1 { Kind::MFT1 } else { Kind::MFT2 }
 }
 
 fn put_mft_head(out: &mut [u64], t: MftTable)
@@ -97,11 +93,7 @@ fn put_abm_head(out: &mut [u64], t: AbmTable)
     requires { ⌜ 37 ≤ length (now out) ⌝ }
     ensures { λ _. ⌜ now (out .exit) ≡ sets (now (out .entry)) 0 (abmHead (tableFrom t)) ⌝ }
 {
-    let head = [
-        abm_type(t.to_pcs) as u64,
-        t.inputs as u64,
-        t.outputs as u64,
-    ];
+    let head = [abm_type(t.to_pcs) as u64, t.inputs as u64, t.outputs as u64];
     put::put_numbers(out, 0, &head);
 }
 

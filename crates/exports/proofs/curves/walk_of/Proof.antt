@@ -3,14 +3,10 @@
 use borrow.Author.Tests.{eq-eqb, ne-eqb}
 use Rattle.exports.proofs.curves.walk_of.Statement.{statement}
 use Rattle.exports.proofs.curves.walk_of.Tie as tie
-use Rattle.exports.proofs.curves.walk_of.Reads as reads
-use Rattle.exports.proofs.curves.walk_of.Lts as lts
 
--- src/curves.rt:24:1
 returns : tie.Need-returns
 returns c = simp (eq-eqb _ _ (c .if1 .taken))
 
--- src/curves.rt:24:1
 returns-2 : tie.Need-returns-2
 returns-2 c = simp (ne-eqb _ _ (c .if1 .left))
 

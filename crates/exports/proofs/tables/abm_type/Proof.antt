@@ -3,15 +3,11 @@
 use Rattle.fields.specs.Tag.{signatureOf}
 use Rattle.exports.proofs.tables.abm_type.Statement.{statement}
 use Rattle.exports.proofs.tables.abm_type.Tie as tie
-use Rattle.exports.proofs.tables.abm_type.Reads as reads
-use Rattle.exports.proofs.tables.abm_type.Lts as lts
 
--- src/tables.rt:75:1
 returns : tie.Need-returns
 unfolding signatureOf
 returns c = simp (c .if1 .taken)
 
--- src/tables.rt:75:1
 returns-2 : tie.Need-returns-2
 unfolding signatureOf
 returns-2 c = simp (c .if1 .left)

@@ -4,15 +4,11 @@ use borrow.Author.Tests.{eq-eqb, ne-eqb}
 use Rattle.fields.specs.Tag.{signatureOf}
 use Rattle.exports.proofs.tables.mft_type.Statement.{statement}
 use Rattle.exports.proofs.tables.mft_type.Tie as tie
-use Rattle.exports.proofs.tables.mft_type.Reads as reads
-use Rattle.exports.proofs.tables.mft_type.Lts as lts
 
--- src/tables.rt:36:1
 returns : tie.Need-returns
 unfolding signatureOf
 returns c = simp (eq-eqb _ _ (c .if1 .taken))
 
--- src/tables.rt:36:1
 returns-2 : tie.Need-returns-2
 unfolding signatureOf
 returns-2 c = simp (ne-eqb _ _ (c .if1 .left))

@@ -1,33 +1,23 @@
+-- `exports::tables::put_mft` meets its contract: each part stands behind the one before it.
+-- Assumes nothing.
+use mathlib.Core.Path.{refl}
+use Rattle.mft.specs.Answer.{fieldsFrom}
+use Rattle.exports.specs.Layouts.{mftHead, mftRanges}
+use Rattle.exports.proofs.Putting.{three-rows}
 use borrow.Author.Needs.{needs}
 use Rattle.exports.proofs.tables.put_mft.Statement.{statement}
 use Rattle.exports.proofs.tables.put_mft.Tie as tie
-use Rattle.exports.proofs.tables.put_mft.Reads as reads
-use Rattle.exports.proofs.tables.put_mft.Lts as lts
-use Rattle.exports.proofs.put.put_words.Reads as put-words-reads
-use Rattle.exports.proofs.tables.put_mft_head.Reads as put-mft-head-reads
-use Rattle.exports.proofs.tables.put_mft_ranges.Reads as put-mft-ranges-reads
 
--- src/tables.rt:84:5
-put-mft-head-requires : tie.Need-put-mft-head-requires
-put-mft-head-requires c κs = search needs
-
--- src/tables.rt:85:5
-put-words-requires : tie.Need-put-words-requires
-put-words-requires c κs = search needs
-
--- src/tables.rt:86:5
-put-mft-ranges-requires : tie.Need-put-mft-ranges-requires
-put-mft-ranges-requires c κs = search needs
-
--- src/tables.rt:80:1
-same-length : tie.Need-same-length
-same-length c = search needs
-
--- src/tables.rt:80:1
 returns : tie.Need-returns
-returns c = ?
+returns c =
+    three-rows (c .before .before .before .before .before .before .before .before .before .before .before .before .before .before .args .out .now) _ _ _ (mftHead (fieldsFrom (c .before .before .before .before .before .before .before .before .before .before .before .before .before .before .args .t))) (c .before .before .before .before .before .before .before .before .before .before .before .before .before .before .args .matrix .now) (mftRanges (fieldsFrom (c .before .before .before .before .before .before .before .before .before .before .before .before .before .before .args .t)))
+    refl
+    (c .before .before .before .before .before .before .before .before .before .before .before .before .before .before .pre .1)
+    (c .before .before .before .before .before .before .before .before .before .before .put-mft-head .ensures)
+    (c .before .before .before .before .before .before .put-words .ensures)
+    (c .before .before .put-mft-ranges .ensures)
 
 pub put-mft-spec : {M : Type 1} → statement M
 put-mft-spec =
     tie.close
-    (tie.spec put-mft-head-requires put-words-requires put-mft-ranges-requires same-length returns)
+    (tie.spec (λ c κs. search needs) (λ c κs. search needs) (λ c κs. search needs) (λ c. search needs) returns)
