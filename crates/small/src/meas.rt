@@ -1,7 +1,6 @@
 // `meas`: read_meas_tag of moxcms.
 use crate::window;
 use crate::window::Found;
-use crate::xyz;
 use crate::xyz::XyzNumber;
 use fields::Entry;
 use fields::InTag;
@@ -33,7 +32,11 @@ fn measurement_at(bytes: &[u8]) -> Measurement
     ensures { λ r. ⌜ measured r ≡ measurement (now (bytes .entry)) ⌝ }
 {
     let observer = fields::u32_at(bytes, InTag(8));
-    let backing = xyz::xyz_at(bytes, 12);
+    let backing = XyzNumber {
+        x: fields::u32_at(bytes, InTag(12)),
+        y: fields::u32_at(bytes, InTag(16)),
+        z: fields::u32_at(bytes, InTag(20)),
+    };
     let geometry = fields::u32_at(bytes, InTag(24));
     let flare = fields::u32_at(bytes, InTag(28));
     let illuminant = fields::u32_at(bytes, InTag(32));

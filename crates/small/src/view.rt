@@ -1,7 +1,6 @@
 // `view`: read_viewing_conditions of moxcms.
 use crate::window;
 use crate::window::Found;
-use crate::xyz;
 use crate::xyz::XyzNumber;
 use fields::Entry;
 use fields::InTag;
@@ -28,8 +27,16 @@ pub enum ViewAnswer {
 fn conditions_at(bytes: &[u8]) -> ViewingConditions
     ensures { λ r. ⌜ viewed r ≡ conditions (now (bytes .entry)) ⌝ }
 {
-    let illuminant = xyz::xyz_at(bytes, 8);
-    let surround = xyz::xyz_at(bytes, 20);
+    let illuminant = XyzNumber {
+        x: fields::u32_at(bytes, InTag(8)),
+        y: fields::u32_at(bytes, InTag(12)),
+        z: fields::u32_at(bytes, InTag(16)),
+    };
+    let surround = XyzNumber {
+        x: fields::u32_at(bytes, InTag(20)),
+        y: fields::u32_at(bytes, InTag(24)),
+        z: fields::u32_at(bytes, InTag(28)),
+    };
     let number = fields::u32_at(bytes, InTag(32));
     ViewingConditions {
         illuminant,
