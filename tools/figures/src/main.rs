@@ -72,6 +72,7 @@ pub enum Kind {
     Refused,
 }
 
+/// What the Rust answered; the value itself is dropped.
 fn kind<T>(answer: Result<Option<T>, CmsError>) -> Kind {
     match black_box(&answer) {
         Ok(Some(_)) => Kind::Value,
