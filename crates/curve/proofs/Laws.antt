@@ -3,24 +3,19 @@
 -- Assumes nothing.
 use Prim.Native.Nat.{ℕ, _+_, _-_, _*_, _≤_, _<_}
 use native.Mathlib.Omega.{arith}
-use mathlib.Core.Path.{_≡_, refl, sym, _∙_}
+use mathlib.Core.Path.{_≡_, sym, _∙_}
 use mathlib.Core.Bool.{Bool, true, false, _&&_}
 use mathlib.Core.List.{List, [], _∷_}
 use lib.Dec.{eqb}
 use lib.ListN.{length, getD, take, drop}
-use types.Run.{OneOf}
-use denote.Enum.Declared.{tagOf as placeIn}
 use borrow.Author.Tests.{eq-eqb, ne-eqb, lt-ltb, le-ltb, le-leb, lt-leb}
 use Rattle.fields.specs.Bytes.{u32At, wordsAt}
 use Rattle.fields.specs.Place.{placeOf}
-use Rattle.fields.specs.Tag.{signatureOf, kindOf}
-use Rattle.fields.specs.declared.Kind.{Kind}
+use Rattle.fields.specs.Tag.{signatureOf}
 use Rattle.fields.specs.declared.Kind.the-variants.{Curv, Para}
 use Rattle.fields.specs.declared.Place.{Place}
 use Rattle.fields.specs.declared.Place.the-variants.{In, Past}
-use Rattle.fields.proofs.Kind as kinds
 use Rattle.fields.proofs.Located.{inside, past, rest-is, part-is}
-use Rattle.fields.proofs.Signatures.{arm, unlike, others}
 use Rattle.fields.proofs.Words.{word-at, word-past}
 use Rattle.curve.specs.Answer.{Answer, value, absent, refused, words, answerOf}
 use Rattle.curve.specs.Curve.{trcOf, curveOf, tableOf, paraOf, divides}
@@ -96,24 +91,19 @@ module _ (walk : Walk) (start limit : ℕ) (t : List ℕ) where
   unfolding curveOf answerOf
   curve-short l = simp (lt-ltb _ _ l)
 
-  module _ (l : 12 ≤ length t) (k : Kind) (h : k ≡ kindOf (u32At t 0)) where
-    pub curve-table : (r : Answer) → k ≡ Curv → r ≡ answerOf walk start (tableOf limit t) → r ≡ answerOf walk start (curveOf limit t)
+  module _ (l : 12 ≤ length t) (w : ℕ) (h : w ≡ u32At t 0) where
+    pub curve-table : (r : Answer) → w ≡ signatureOf Curv → r ≡ answerOf walk start (tableOf limit t) → r ≡ answerOf walk start (curveOf limit t)
     unfolding curveOf
-    curve-table r e w =
-        let s : u32At t 0 ≡ signatureOf Curv = arm _ Curv (λ o. let z : _≡_ {A = ℕ} 0 1 = cc in omega arith) h e in
-        simp (le-ltb _ _ l, eq-eqb _ _ s) w
+    curve-table r e g = simp (le-ltb _ _ l, ← h, eq-eqb _ _ e) g
 
-    pub curve-para : (r : Answer) → k ≡ Para → r ≡ answerOf walk start (paraOf t) → r ≡ answerOf walk start (curveOf limit t)
-    unfolding curveOf signatureOf
-    curve-para r e w =
-        let s : u32At t 0 ≡ signatureOf Para = arm _ Para (λ o. let z : _≡_ {A = ℕ} 0 1 = cc in omega arith) h e in
-        simp (le-ltb _ _ l, s) w
+    module _ (n : w ≡ signatureOf Curv → ⊥) where
+      pub curve-para : (r : Answer) → w ≡ signatureOf Para → r ≡ answerOf walk start (paraOf t) → r ≡ answerOf walk start (curveOf limit t)
+      unfolding curveOf
+      curve-para r e g = simp (le-ltb _ _ l, ← h, ne-eqb _ _ n, eq-eqb _ _ e) g
 
-    pub curve-other : OneOf (others (Curv ∷ Para ∷ [])) (placeIn kinds.the-type k) → refused 9 ≡ answerOf walk start (curveOf limit t)
-    unfolding curveOf answerOf
-    curve-other o =
-        let rest = others (Curv ∷ Para ∷ []) in
-        simp (le-ltb _ _ l, ne-eqb _ _ (unlike _ Curv rest refl h o), ne-eqb _ _ (unlike _ Para rest refl h o))
+      pub curve-other : (w ≡ signatureOf Para → ⊥) → refused 9 ≡ answerOf walk start (curveOf limit t)
+      unfolding curveOf answerOf
+      curve-other m = simp (le-ltb _ _ l, ← h, ne-eqb _ _ n, ne-eqb _ _ m)
 
 -- ---- the lone reader
 

@@ -175,11 +175,14 @@ pub fn read_curve(bytes: &[u8], start: u32, limit: u64, walk: Walk) -> CurveAnsw
     if bytes.len() < TAG_SIZE as usize {
         return CurveAnswer::Refused(Refusal::CurveRunsOut);
     }
-    match fields::kind_at(bytes, InTag(0)) {
-        Kind::Curv => read_table(bytes, start, limit, walk),
-        Kind::Para => read_para(bytes, start, walk),
-        _ => CurveAnswer::Refused(Refusal::OtherCurve),
+    let signature = fields::u32_at(bytes, InTag(0));
+    if signature == Kind::CURV {
+        return read_table(bytes, start, limit, walk);
     }
+    if signature == Kind::PARA {
+        return read_para(bytes, start, walk);
+    }
+    CurveAnswer::Refused(Refusal::OtherCurve)
 }
 
 // The tone curve whose tag stands at `entry`, of `size` bytes, or up to the profile's end where the size is 0; a table may have

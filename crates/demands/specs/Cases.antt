@@ -11,7 +11,7 @@ use Rattle.curve.specs.Answer.{value}
 use Rattle.curve.specs.Cases.{para, none, two, many, signedParameters}
 use Rattle.curve.specs.Curve.{trcOf}
 use Rattle.curve.specs.declared.Walk.the-variants.{Crate, Book}
-use Rattle.lut_meaning.specs.Cases.{tag as threeCurves, threeB, slots, emptyAt, straightAt}
+use Rattle.lut_meaning.specs.Cases.{tag as threeCurves, threeB, plain, slots, emptyAt, straightAt}
 use Rattle.text_meaning.specs.Answer.{mluc}
 use Rattle.text_meaning.specs.Cases.{five, slots as textSlots, recordOf}
 use Rattle.demands.specs.Readers.{Reader, lut, trc, string, Call, Numbers, meaning, left, outcome, refused}
@@ -77,9 +77,9 @@ cases =
     refuses (trc Crate) (lone (function 1 (0 ∷ 1 ∷ 0 ∷ 0 ∷ 0 ∷ 0 ∷ 0 ∷ 0 ∷ 0 ∷ 1 ∷ 0 ∷ 0 ∷ [])) 24) 13 ∷
     refuses (trc Crate) (lone (function 5 []) 12) 12 ∷
     -- `mAB ` with three B curves, on either walk, and with two slots
-    answers (lut Crate) (call threeCurves 72 (slots 3)) threeB ∷
+    answers (lut Crate) (call threeCurves 72 (slots 3)) (plain threeB) ∷
     leaves (lut Crate) (call threeCurves 72 (slots 3)) (emptyAt 44 ++ emptyAt 44 ++ emptyAt 44) ∷
-    answers (lut Book) (call threeCurves 72 (slots 3)) threeB ∷
+    answers (lut Book) (call threeCurves 72 (slots 3)) (plain threeB) ∷
     leaves (lut Book) (call threeCurves 72 (slots 3)) (emptyAt 44 ++ emptyAt 56 ++ straightAt 68) ∷
     refuses (lut Crate) (call threeCurves 72 (slots 2)) 14 ∷
     refuses (lut Book) (call threeCurves 72 (slots 2)) 14 ∷

@@ -3,26 +3,20 @@
 use Prim.Native.Nat.{ℕ, _+_, _-_, _*_, _/_, _≤_, _<_}
 use native.Mathlib.Omega.{arith}
 use mathlib.Core.Path.{_≡_, refl, sym, _∙_, ap}
-use mathlib.Core.Bool.{Bool, true, false, _&&_}
-use mathlib.Core.List.{List, [], _∷_, _++_}
-use mathlib.Core.Logic.{inl, inr}
-use lib.Dec.{ltb}
+use mathlib.Core.Bool.{Bool, true, false, cond, _&&_, _||_}
+use mathlib.Core.List.{List, _++_}
+use lib.Dec.{ltb, eqb}
 use lib.ListN.{length, getD, take, drop, replicate}
-use types.Run.{OneOf}
-use denote.Enum.Declared.{tagOf as placeIn}
 use borrow.Author.Tests.{eq-eqb, ne-eqb, lt-ltb, le-ltb}
 use Rattle.fields.specs.Bytes.{u32At}
 use Rattle.fields.specs.Place.{placeOf, countedSize}
 use Rattle.fields.specs.Refusals.{numberOf}
-use Rattle.fields.specs.Tag.{signatureOf, kindOf as namedBy}
-use Rattle.fields.specs.declared.Kind.{Kind}
-use Rattle.fields.specs.declared.Kind.the-variants.{Mft1, Mft2, Mab, Mba}
+use Rattle.fields.specs.Tag.{signatureOf}
+use Rattle.fields.specs.declared.Kind.the-variants.{Mab, Mba}
 use Rattle.fields.specs.declared.Place.{Place}
 use Rattle.fields.specs.declared.Place.the-variants.{In, Past}
 use Rattle.fields.specs.declared.Refusal.{Refusal}
-use Rattle.fields.proofs.Kind as kinds
 use Rattle.fields.proofs.Located.{inside, past, part-is}
-use Rattle.fields.proofs.Signatures.{arm, unlike, others}
 use Rattle.clut.specs.Answer.{paper as clutPaper, toldOf, Told, value as clutValue, refused as clutRefused}
 use Rattle.clut.specs.Clut.{Seen, is, no, clutOf}
 use Rattle.clut.specs.Table.{product, lengthOf}
@@ -30,24 +24,23 @@ use Rattle.clut.specs.declared.ClutAnswer.{ClutAnswer}
 use Rattle.clut.specs.declared.ColourTable.{ColourTable}
 use Rattle.curve.specs.declared.Walk.{Walk}
 use Rattle.mft.specs.Answer.{State as Mft·State, fieldsFrom, answerOf, paper as Mft·paper}
-use Rattle.mft.specs.Layout.{isWide, isMft}
+use Rattle.mft.specs.Layout.{isMft}
 use Rattle.mft.specs.Mft.{mftOf}
 use Rattle.mft.specs.declared.Mft.{Mft}
 use Rattle.mft.specs.declared.MftAnswer.{MftAnswer}
 use Rattle.mft.specs.declared.MftTable.{MftTable}
-use Rattle.mft.proofs.Conforms.{type-known}
 use Rattle.run.specs.Run.{recordWords, recordsOf}
 use Rattle.lut_meaning.specs.Abm.{tableOf, valueFrom, recordedOf, judgedOf, withTable, abmOf}
 use Rattle.lut_meaning.specs.Answer.{mft, abm, refused, Answer, none, refuse, mftState, fromMft, paper, leftBy}
 use Rattle.lut_meaning.specs.Layout.{toPcs, inputs, outputs, planOf, Planned, recordsNeeded, gridOf, matrixOf, biasOf}
-use Rattle.lut_meaning.specs.Lut.{Said, tagOf, byType, lutOf}
+use Rattle.lut_meaning.specs.Lut.{Said, tagOf, isAbm, byType, lutOf}
 use Rattle.lut_meaning.specs.Parts.{runsJudged, curvesOf, matrixJudged}
 use Rattle.lut_meaning.specs.Judged.{good}
 use Rattle.lut.specs.Verdict.{judgedFrom}
 use Rattle.lut_meaning.specs.declared.Lut.{Lut}
 use Rattle.lut_meaning.specs.declared.Plan.{Plan}
 use Rattle.lut.specs.declared.nested.Verdict.{Verdict}
-use Rattle.lut_meaning.proofs.Shared.{all-length, mab-is, mba-is}
+use Rattle.lut_meaning.proofs.Shared.{all-length}
 
 -- ---- the parts of the answer
 
@@ -174,39 +167,34 @@ mft-leaves : (a : Mft·State) (records slots : List ℕ) → leftBy (mftState a)
 mft-leaves (Mft·State.value f) records slots = refl
 mft-leaves (Mft·State.refused n) records slots = refl
 
-mab-mba : signatureOf Mba ≡ signatureOf Mab → ⊥
-unfolding signatureOf
-mab-mba e = omega arith
+module _ (t : List ℕ) (w : ℕ) (h : w ≡ u32At t 0) where
+  pub abm-first : w ≡ signatureOf Mab → true ≡ isAbm t
+  abm-first e = rw (← h, eq-eqb _ _ e)
 
-module _ (walk : Walk) (limit points : ℕ) (t s : List ℕ) (k : Kind) (h : k ≡ namedBy (u32At t 0)) (r : Lut) where
-  read-mft : isMft t ≡ true → (got : Mft) → Mft·paper got ≡ answerOf t (mftOf points t) → paper r ≡ fromMft (Mft·paper got) → Said walk limit t (byType walk limit points t (length s)) r s s
+  pub abm-second : (w ≡ signatureOf Mab → ⊥) → eqb w (signatureOf Mba) ≡ isAbm t
+  abm-second n = rw (← h, ne-eqb _ _ n)
+
+-- the same answer to either of two tests
+either : {A : Type 0} (x y : Bool) (p q : A) → cond x p (cond y p q) ≡ cond (x || y) p q
+either true y p q = refl
+either false y p q = refl
+
+module _ (walk : Walk) (limit points : ℕ) (t s : List ℕ) (b : Bool) (h : b ≡ isMft t) (r : Lut) where
+  pub kind-mft : b ≡ true → (got : Mft) → Mft·paper got ≡ answerOf t (mftOf points t) → paper r ≡ fromMft (Mft·paper got) → Said walk limit t (byType walk limit points t (length s)) r s s
   unfolding byType
-  read-mft i got e g = rw i record { answer-is = g ∙ ap fromMft e; left-is = sym (mft-leaves (answerOf t (mftOf points t) .state) _ s) }
+  kind-mft i got e g = rw (← h, i) record { answer-is = g ∙ ap fromMft e; left-is = sym (mft-leaves (answerOf t (mftOf points t) .state) _ s) }
 
-  pub kind-mft1 : k ≡ Mft1 → (got : Mft) → Mft·paper got ≡ answerOf t (mftOf points t) → paper r ≡ fromMft (Mft·paper got) → Said walk limit t (byType walk limit points t (length s)) r s s
-  kind-mft1 e = read-mft (type-known t (inl (arm _ Mft1 (λ o. let z : _≡_ {A = ℕ} 0 1 = cc in omega arith) h e)))
+  module _ (i : b ≡ false) (a : Bool) (k : a ≡ isAbm t) where
+    -- by the other two types
+    chosen : byType walk limit points t (length s) ≡ cond a (abmOf walk limit t (length s)) (refuse 3)
+    unfolding byType
+    chosen = rw (← h, i, k) (either (eqb (u32At t 0) (signatureOf Mab)) (eqb (u32At t 0) (signatureOf Mba)) _ _)
 
-  pub kind-mft2 : k ≡ Mft2 → (got : Mft) → Mft·paper got ≡ answerOf t (mftOf points t) → paper r ≡ fromMft (Mft·paper got) → Said walk limit t (byType walk limit points t (length s)) r s s
-  kind-mft2 e = read-mft (type-known t (inr (arm _ Mft2 (λ o. let z : _≡_ {A = ℕ} 0 1 = cc in omega arith) h e)))
+    pub kind-abm : a ≡ true → (s' : List ℕ) → Said walk limit t (abmOf walk limit t (length s)) r s s' → Said walk limit t (byType walk limit points t (length s)) r s s'
+    kind-abm e s' g = same walk limit t s _ r _ s' (sym (chosen ∙ rw e)) g
 
-  pub kind-mab : k ≡ Mab → (s' : List ℕ) → Said walk limit t (abmOf walk limit t (length s)) r s s' → Said walk limit t (byType walk limit points t (length s)) r s s'
-  unfolding byType
-  kind-mab e s' g =
-      let i : u32At t 0 ≡ signatureOf Mab = arm _ Mab (λ o. let z : _≡_ {A = ℕ} 0 1 = cc in omega arith) h e in
-      same walk limit t s _ r _ s' (rw (mab-is t i, eq-eqb _ _ i)) g
-
-  pub kind-mba : k ≡ Mba → (s' : List ℕ) → Said walk limit t (abmOf walk limit t (length s)) r s s' → Said walk limit t (byType walk limit points t (length s)) r s s'
-  unfolding byType
-  kind-mba e s' g =
-      let i : u32At t 0 ≡ signatureOf Mba = arm _ Mba (λ o. let z : _≡_ {A = ℕ} 0 1 = cc in omega arith) h e in
-      let n : u32At t 0 ≡ signatureOf Mab → ⊥ = λ m. mab-mba (sym i ∙ m) in
-      same walk limit t s _ r _ s' (rw (mba-is t i, ne-eqb _ _ n, eq-eqb _ _ i)) g
-
-  pub kind-other : OneOf (others (Mft1 ∷ Mft2 ∷ Mab ∷ Mba ∷ [])) (placeIn kinds.the-type k) → paper r ≡ refuse 3 → Said walk limit t (byType walk limit points t (length s)) r s s
-  unfolding byType isMft isWide
-  kind-other o g =
-      let rest = others (Mft1 ∷ Mft2 ∷ Mab ∷ Mba ∷ []) in
-      refusing walk limit t s _ r 3 (rw (ne-eqb _ _ (unlike _ Mft1 rest refl h o), ne-eqb _ _ (unlike _ Mft2 rest refl h o), ne-eqb _ _ (unlike _ Mab rest refl h o), ne-eqb _ _ (unlike _ Mba rest refl h o))) g
+    pub kind-other : a ≡ false → paper r ≡ refuse 3 → Said walk limit t (byType walk limit points t (length s)) r s s
+    kind-other e g = refusing walk limit t s _ r 3 (chosen ∙ rw e) g
 
 -- ---- the tag in its profile
 

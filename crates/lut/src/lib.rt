@@ -13,22 +13,34 @@ pub use lut_meaning::AbmTable;
 pub use lut_meaning::Lut;
 pub use lut_meaning::LutAnswer;
 pub use nested::RECORD_WORDS;
+ghost use mathlib.Core.Path.{_≡_};
 ghost use lib.ListN.{length};
 ghost use Prim.Native.Nat.{_^_, _<_};
-ghost use Rattle.lut_meaning.specs.Lut.{Said, tagOf, byType, lutOf};
+ghost use Rattle.lut_meaning.specs.Lut.{Said, tagOf, isAbm, byType, lutOf};
+
+// Whether the tag is `mAB ` or `mBA `.
+fn is_abm(tag: &[u8]) -> bool
+    ensures { λ r. ⌜ r ≡ isAbm (now (tag .entry)) ⌝ }
+{
+    let signature = fields::u32_at(tag, InTag(0));
+    if signature == Kind::MAB {
+        return true;
+    }
+    signature == Kind::MBA
+}
 
 // By the type of the tag.
 fn read_kind(tag: &[u8], limit: u64, points: u64, walk: Walk, slots: &mut [u32]) -> Lut
     requires { ⌜ length (now tag) < 2 ^ 32 ⌝ }
     ensures { λ r. ⌜ Said walk limit (now (tag .entry)) (byType walk limit points (now (tag .entry)) (length (now (slots .entry)))) r (now (slots .entry)) (now (slots .exit)) ⌝ }
 {
-    match fields::kind_at(tag, InTag(0)) {
-        Kind::Mft1 => answer::from_mft(mft::read_lut_a_to_b_type(tag, points)),
-        Kind::Mft2 => answer::from_mft(mft::read_lut_a_to_b_type(tag, points)),
-        Kind::Mab => abm::read_lut_abm_type(tag, limit, walk, slots),
-        Kind::Mba => abm::read_lut_abm_type(tag, limit, walk, slots),
-        _ => answer::refused(Refusal::OtherLut),
+    if mft::is_mft(tag) {
+        return answer::from_mft(mft::read_lut_a_to_b_type(tag, points));
     }
+    if is_abm(tag) {
+        return abm::read_lut_abm_type(tag, limit, walk, slots);
+    }
+    answer::refused(Refusal::OtherLut)
 }
 
 // The lookup table whose tag stands at `entry`, of `size` bytes; a size of 0 counts as 12. A curve may have `limit` entries, and the grid

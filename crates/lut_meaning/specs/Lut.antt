@@ -1,7 +1,7 @@
 -- Lookup tables: what each call must answer, and what it leaves in the lent slots.
 use Prim.Native.Nat.{ℕ, _+_}
 use mathlib.Core.Path.{_≡_}
-use mathlib.Core.Bool.{cond}
+use mathlib.Core.Bool.{Bool, cond, _||_}
 use mathlib.Core.List.{List}
 use lib.Dec.{ltb, eqb}
 use lib.ListN.{length}
@@ -22,6 +22,9 @@ use Rattle.lut_meaning.specs.declared.Lut.{Lut}
 
 abbrev pub tagOf : List ℕ → ℕ → ℕ → List ℕ
 tagOf profile entry size = tagAt profile entry (countedSize size)
+
+abbrev pub isAbm : List ℕ → Bool
+isAbm t = eqb (u32At t 0) (signatureOf Mab) || eqb (u32At t 0) (signatureOf Mba)
 
 -- by the type of the tag t
 unfoldable pub byType : Walk → ℕ → ℕ → List ℕ → ℕ → Answer

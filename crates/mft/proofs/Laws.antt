@@ -5,12 +5,10 @@ use native.Mathlib.Omega.{arith}
 use native.Mathlib.Numerals.{add-one}
 use native.Mathlib.Nat.{le-trans, mul-le-mul, pow-zero, pow-suc, pow-le-pow-left, pow-le-pow-right}
 use mathlib.Core.Path.{_≡_, refl, sym, _∙_}
-use mathlib.Core.Bool.{Bool, true, false, not, _||_, or-true}
-use mathlib.Core.List.{List, [], _∷_}
+use mathlib.Core.Bool.{Bool, true, false, not, _||_}
+use mathlib.Core.List.{List}
 use lib.Dec.{ltb, eqb}
 use lib.ListN.{length, getD, replicate}
-use types.Run.{OneOf}
-use denote.Enum.Declared.{tagOf as placeIn}
 use mir.Syntax.{w64}
 use mir.Val.{Fits}
 use borrow.Author.Tests.{eq-eqb, ne-eqb, lt-ltb, le-ltb, ltb-false}
@@ -18,13 +16,10 @@ use Rattle.clut.specs.Table.{pointsOf}
 use Rattle.clut.proofs.Grid.{power-is}
 use Rattle.fields.specs.Bytes.{u16At, u32At, wordsAt}
 use Rattle.fields.specs.Refusals.{numberOf}
-use Rattle.fields.specs.Tag.{signatureOf, kindOf}
-use Rattle.fields.specs.declared.Kind.{Kind}
-use Rattle.fields.specs.declared.Kind.the-variants.{Mft1, Mft2}
+use Rattle.fields.specs.Tag.{signatureOf}
+use Rattle.fields.specs.declared.Kind.the-variants.{Mft1}
 use Rattle.fields.specs.declared.Refusal.{Refusal}
 use Rattle.fields.proofs.Choice.{neither-left, neither-right}
-use Rattle.fields.proofs.Kind as kinds
-use Rattle.fields.proofs.Signatures.{arm, unlike, others}
 use Rattle.mft.specs.Answer.{State, value, refused, stateFrom, fieldsOf, answerOf}
 use Rattle.mft.specs.Layout.{isWide, isMft, inputs, outputs, gridPoints, inputEntries, outputEntries, entrySize, tablesStart, entriesAt, colourTable, Sized}
 use Rattle.mft.specs.Mft.{outside, badEntries, badChannels, badNumbers, tablesOf, numbersOf, mftOf}
@@ -216,43 +211,35 @@ module _ (limit : ℕ) (t : List ℕ) (b : Bool) (e : b ≡ badNumbers t) where
 
 -- ---- the type
 
-other-type : signatureOf Mft1 ≡ signatureOf Mft2 → ⊥
-unfolding signatureOf
-other-type e = omega arith
+module _ (t : List ℕ) (w : ℕ) (h : w ≡ u32At t 0) where
+  pub is-mft1 : w ≡ signatureOf Mft1 → true ≡ isMft t
+  unfolding isMft
+  is-mft1 e = rw (← h, eq-eqb _ _ e)
+
+  pub is-mft2 : (w ≡ signatureOf Mft1 → ⊥) → (b : Bool) → b ≡ isWide t → b ≡ isMft t
+  unfolding isMft
+  is-mft2 n b e = rw (← h, ne-eqb _ _ n) e
 
 module _ (limit : ℕ) (t : List ℕ) where
   pub type-short : length t < 48 → refused 2 ≡ mftOf limit t
   unfolding mftOf
   type-short l = rw (lt-ltb _ _ l)
 
-  module _ (l : 48 ≤ length t) (k : Kind) (h : k ≡ kindOf (u32At t 0)) where
-    pub type-mft1 : k ≡ Mft1 → (r : State) → r ≡ numbersOf limit t → r ≡ mftOf limit t
-    unfolding mftOf isMft isWide tablesStart
-    type-mft1 e r g =
-        let i : u32At t 0 ≡ signatureOf Mft1 = arm _ Mft1 (λ o. let z : _≡_ {A = ℕ} 0 1 = cc in omega arith) h e in
-        let n : u32At t 0 ≡ signatureOf Mft2 → ⊥ = λ m. other-type (sym i ∙ m) in
-        rw (le-ltb _ _ l, eq-eqb _ _ i, ne-eqb _ _ n, le-ltb _ _ l) g
+  module _ (l : 48 ≤ length t) (b : Bool) (h : b ≡ isMft t) where
+    pub type-other : b ≡ false → refused 3 ≡ mftOf limit t
+    unfolding mftOf
+    type-other e = rw (le-ltb _ _ l, ← h, e)
 
-    module _ (e : k ≡ Mft2) where
-      wide : isWide t ≡ true
-      unfolding isWide
-      wide = eq-eqb _ _ (arm _ Mft2 (λ o. let z : _≡_ {A = ℕ} 0 1 = cc in omega arith) h e)
+    module _ (e : b ≡ true) (start : ℕ) (g : start ≡ tablesStart t) where
+      pub type-cut : length t < start → refused 2 ≡ mftOf limit t
+      unfolding mftOf
+      type-cut m = rw (le-ltb _ _ l, ← h, e, ← g, lt-ltb _ _ m)
 
-      pub type-mft2-short : length t < 52 → refused 2 ≡ mftOf limit t
-      unfolding mftOf isMft tablesStart
-      type-mft2-short m = rw (le-ltb _ _ l, wide, or-true, lt-ltb _ _ m)
+      pub type-read : start ≤ length t → (r : State) → r ≡ numbersOf limit t → r ≡ mftOf limit t
+      unfolding mftOf
+      type-read m r i = rw (le-ltb _ _ l, ← h, e, ← g, le-ltb _ _ m) i
 
-      pub type-mft2 : 52 ≤ length t → (r : State) → r ≡ numbersOf limit t → r ≡ mftOf limit t
-      unfolding mftOf isMft tablesStart
-      type-mft2 m r g = rw (le-ltb _ _ l, wide, or-true, le-ltb _ _ m) g
-
-    pub type-other : OneOf (others (Mft1 ∷ Mft2 ∷ [])) (placeIn kinds.the-type k) → refused 3 ≡ mftOf limit t
-    unfolding mftOf isMft isWide
-    type-other o =
-        let rest = others (Mft1 ∷ Mft2 ∷ []) in
-        rw (le-ltb _ _ l, ne-eqb _ _ (unlike _ Mft1 rest refl h o), ne-eqb _ _ (unlike _ Mft2 rest refl h o))
-
-pub ruleset read-laws = (type-short, type-mft1, type-mft2-short, type-mft2, type-other)
+pub ruleset read-laws = (type-short, type-other, type-cut, type-read)
 
 -- ---- the matrix beside it
 

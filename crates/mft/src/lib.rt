@@ -6,7 +6,7 @@ ghost use mathlib.Core.Path.{_≡_};
 ghost use Prim.Native.Nat.{_*_, _^_, _≤_};
 ghost use Rattle.clut.specs.Table.{pointsOf};
 ghost use Rattle.mft.specs.Answer.{paper, stateFrom, answerOf};
-ghost use Rattle.mft.specs.Layout.{isWide, entriesAt, entrySize, tablesStart, colourTable, Sized};
+ghost use Rattle.mft.specs.Layout.{isWide, isMft, entriesAt, entrySize, tablesStart, colourTable, Sized};
 ghost use Rattle.mft.specs.Mft.{outside, badEntries, badChannels, badNumbers, tablesOf, numbersOf, mftOf};
 
 // What an `mft1` or `mft2` tag says: the bytes of an entry (1 in `mft1`, 2 in `mft2`), its channels, the grid points of each dimension, how
@@ -42,6 +42,16 @@ fn is_wide(tag: &[u8]) -> bool
     ensures { λ r. ⌜ r ≡ isWide (now (tag .entry)) ⌝ }
 {
     fields::u32_at(tag, InTag(0)) == Kind::MFT2
+}
+
+// Whether the tag is `mft1` or `mft2`.
+pub fn is_mft(tag: &[u8]) -> bool
+    ensures { λ r. ⌜ r ≡ isMft (now (tag .entry)) ⌝ }
+{
+    if fields::u32_at(tag, InTag(0)) == Kind::MFT1 {
+        return true;
+    }
+    is_wide(tag)
 }
 
 // How many entries a channel has in the table whose number of them stands at `at`; 256 in `mft1`.
@@ -194,16 +204,13 @@ fn read_type(tag: &[u8], limit: u64) -> MftAnswer
     if tag.len() < 48 {
         return MftAnswer::Refused(Refusal::TagTooShort);
     }
-    match fields::kind_at(tag, InTag(0)) {
-        Kind::Mft1 => read_numbers(tag, limit),
-        Kind::Mft2 => {
-            if tag.len() < 52 {
-                return MftAnswer::Refused(Refusal::TagTooShort);
-            }
-            read_numbers(tag, limit)
+    if is_mft(tag) {
+        if tag.len() < tables_start(tag) as usize {
+            return MftAnswer::Refused(Refusal::TagTooShort);
         }
-        _ => MftAnswer::Refused(Refusal::OtherLut),
+        return read_numbers(tag, limit);
     }
+    MftAnswer::Refused(Refusal::OtherLut)
 }
 
 // The `mft1` or `mft2` tag whose bytes these are; its colour table may have `limit` grid points.

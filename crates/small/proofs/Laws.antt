@@ -3,8 +3,8 @@
 -- Assumes nothing.
 use Prim.Native.Nat.{ℕ, _+_, _-_, _/_, _≤_, _<_}
 use native.Mathlib.Omega.{arith}
-use mathlib.Core.Path.{_≡_, _∙_, ap}
-use mathlib.Core.List.{List, [], _∷_, _++_}
+use mathlib.Core.Path.{_≡_, ap}
+use mathlib.Core.List.{List, [], _∷_}
 use lib.ListN.{length, getD, take, drop}
 use borrow.Author.Tests.{eq-eqb, ne-eqb, lt-ltb, le-ltb}
 use Rattle.fields.specs.Bytes.{u32At, bytesAt, wordsAt}
@@ -14,10 +14,9 @@ use Rattle.fields.specs.declared.Kind.the-variants.{Sf32}
 use Rattle.fields.specs.declared.Place.{Place}
 use Rattle.fields.specs.declared.Place.the-variants.{In, Past}
 use Rattle.fields.proofs.Located.{inside, past, part-is}
-use Rattle.small_meaning.specs.Answer.{Answer, value, absent, refused, triple}
+use Rattle.small_meaning.specs.Answer.{Answer, value, absent, refused}
 use Rattle.small_meaning.specs.Layout.{nineNumbers, signatureIn, dateBytes, measurement, conditions, firstXyz, codePoints}
 use Rattle.small_meaning.specs.Small.{matrixOf, chadOf, windowOf, tripleOf}
-use Rattle.small_meaning.specs.declared.XyzNumber.{XyzNumber}
 
 -- ---- the fields of each type
 
@@ -38,15 +37,13 @@ module _ (t : List ℕ) where
   unfolding wordsAt
   triple-is at x y z e₁ e₂ e₃ = let e : (at + 4) + 4 ≡ at + 8 = omega arith in simp (e₁, e₂, e₃, e)
 
-  pub measurement-is : (o : ℕ) (b : XyzNumber) (g f i : ℕ) → o ≡ u32At t 8 → triple b ≡ wordsAt t 12 3 → g ≡ u32At t 24 → f ≡ u32At t 28 → i ≡ u32At t 32 → o ∷ triple b ++ (g ∷ f ∷ i ∷ []) ≡ measurement t
+  pub measurement-is : (a b c d e f g : ℕ) → a ≡ u32At t 8 → b ≡ u32At t 12 → c ≡ u32At t 16 → d ≡ u32At t 20 → e ≡ u32At t 24 → f ≡ u32At t 28 → g ≡ u32At t 32 → a ∷ b ∷ c ∷ d ∷ e ∷ f ∷ g ∷ [] ≡ measurement t
   unfolding measurement wordsAt
-  measurement-is o b g f i e₁ e₂ e₃ e₄ e₅ =
-      simp (e₁, e₃, e₄, e₅) (ap (λ (ws : List ℕ). u32At t 8 ∷ ws ++ (u32At t 24 ∷ u32At t 28 ∷ u32At t 32 ∷ [])) e₂)
+  measurement-is a b c d e f g e₁ e₂ e₃ e₄ e₅ e₆ e₇ = simp (e₁, e₂, e₃, e₄, e₅, e₆, e₇)
 
-  pub conditions-are : (i s : XyzNumber) (n : ℕ) → triple i ≡ wordsAt t 8 3 → triple s ≡ wordsAt t 20 3 → n ≡ u32At t 32 → triple i ++ triple s ++ (n ∷ []) ≡ conditions t
+  pub conditions-are : (a b c d e f g : ℕ) → a ≡ u32At t 8 → b ≡ u32At t 12 → c ≡ u32At t 16 → d ≡ u32At t 20 → e ≡ u32At t 24 → f ≡ u32At t 28 → g ≡ u32At t 32 → a ∷ b ∷ c ∷ d ∷ e ∷ f ∷ g ∷ [] ≡ conditions t
   unfolding conditions wordsAt
-  conditions-are i s n e₁ e₂ e₃ =
-      simp e₃ (ap (λ (ws : List ℕ). ws ++ triple s ++ (u32At t 32 ∷ [])) e₁ ∙ ap (λ (ws : List ℕ). wordsAt t 8 3 ++ ws ++ (u32At t 32 ∷ [])) e₂)
+  conditions-are a b c d e f g e₁ e₂ e₃ e₄ e₅ e₆ e₇ = simp (e₁, e₂, e₃, e₄, e₅, e₆, e₇)
 
   pub four-are : (a b c d : ℕ) → a ≡ getD t 8 0 → b ≡ getD t 9 0 → c ≡ getD t 10 0 → d ≡ getD t 11 0 → a ∷ b ∷ c ∷ d ∷ [] ≡ codePoints t
   unfolding codePoints bytesAt

@@ -1,6 +1,5 @@
 // `meas`: read_meas_tag of moxcms.
 use crate::window;
-use crate::xyz;
 use fields::Entry;
 use fields::InTag;
 use fields::Kind;
@@ -10,6 +9,7 @@ use fields::TAG_SIZE;
 use small_meaning::Found;
 use small_meaning::MeasAnswer;
 use small_meaning::Measurement;
+use small_meaning::XyzNumber;
 ghost use mathlib.Core.Path.{_≡_};
 ghost use Rattle.small_meaning.specs.Answer.{measured, paperMeas};
 ghost use Rattle.small_meaning.specs.Layout.{measurement};
@@ -19,7 +19,11 @@ fn measurement_at(bytes: &[u8]) -> Measurement
     ensures { λ r. ⌜ measured r ≡ measurement (now (bytes .entry)) ⌝ }
 {
     let observer = fields::u32_at(bytes, InTag(8));
-    let backing = xyz::xyz_at(bytes, 12);
+    let backing = XyzNumber {
+        x: fields::u32_at(bytes, InTag(12)),
+        y: fields::u32_at(bytes, InTag(16)),
+        z: fields::u32_at(bytes, InTag(20)),
+    };
     let geometry = fields::u32_at(bytes, InTag(24));
     let flare = fields::u32_at(bytes, InTag(28));
     let illuminant = fields::u32_at(bytes, InTag(32));

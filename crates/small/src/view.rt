@@ -1,6 +1,5 @@
 // `view`: read_viewing_conditions of moxcms.
 use crate::window;
-use crate::xyz;
 use fields::Entry;
 use fields::InTag;
 use fields::Kind;
@@ -8,6 +7,7 @@ use fields::Refusal;
 use small_meaning::Found;
 use small_meaning::ViewAnswer;
 use small_meaning::ViewingConditions;
+use small_meaning::XyzNumber;
 ghost use mathlib.Core.Path.{_≡_};
 ghost use Rattle.small_meaning.specs.Answer.{viewed, paperView};
 ghost use Rattle.small_meaning.specs.Layout.{conditions};
@@ -16,8 +16,16 @@ ghost use Rattle.small_meaning.specs.Small.{viewOf};
 fn conditions_at(bytes: &[u8]) -> ViewingConditions
     ensures { λ r. ⌜ viewed r ≡ conditions (now (bytes .entry)) ⌝ }
 {
-    let illuminant = xyz::xyz_at(bytes, 8);
-    let surround = xyz::xyz_at(bytes, 20);
+    let illuminant = XyzNumber {
+        x: fields::u32_at(bytes, InTag(8)),
+        y: fields::u32_at(bytes, InTag(12)),
+        z: fields::u32_at(bytes, InTag(16)),
+    };
+    let surround = XyzNumber {
+        x: fields::u32_at(bytes, InTag(20)),
+        y: fields::u32_at(bytes, InTag(24)),
+        z: fields::u32_at(bytes, InTag(28)),
+    };
     let number = fields::u32_at(bytes, InTag(32));
     ViewingConditions {
         illuminant,

@@ -1,6 +1,6 @@
 -- `lut::read_kind` meets its contract: each way out is a law of `byType`.
 -- Assumes nothing.
-use Rattle.lut.proofs.Laws.{kind-mft1, kind-mft2, kind-mab, kind-mba, kind-other}
+use Rattle.lut.proofs.Laws.{kind-mft, kind-abm, kind-other}
 use borrow.Author.Needs.{needs}
 use Rattle.lut.proofs.read_kind.Statement.{statement}
 use Rattle.lut.proofs.read_kind.Tie as tie
@@ -10,21 +10,12 @@ read-kind-spec =
     tie.close
     (tie.spec
     (λ c κs. search needs)
-    (λ c. search needs)
+    (λ c κs. search needs)
+    (λ c κs. search needs)
+    (λ c. search (needs, kind-mft))
     (λ c κs. search needs)
     (λ c κs. search needs)
     (λ c. search needs)
+    (λ c. search (needs, kind-abm))
     (λ c κs. search needs)
-    (λ c κs. search needs)
-    (λ c. search needs)
-    (λ c κs. search needs)
-    (λ c. search needs)
-    (λ c κs. search needs)
-    (λ c κs. search needs)
-    (λ c. search (needs, kind-mft1))
-    (λ c. search (needs, kind-mft2))
-    (λ c. search needs)
-    (λ c. search (needs, kind-mab))
-    (λ c. search needs)
-    (λ c. search (needs, kind-mba))
     (λ c. search (needs, kind-other)))

@@ -11,11 +11,9 @@ read-type-spec =
     (tie.spec
     (λ c. search (needs, read-laws))
     (λ c κs. search needs)
-    (λ c. search needs)
     (λ c κs. search needs)
     (λ c. search needs)
     (λ c. search (needs, read-laws))
     (λ c κs. search needs)
-    (λ c. search (needs, read-laws))
     (λ c. search (needs, read-laws))
     (λ c. search (needs, read-laws)))

@@ -1,0 +1,33 @@
+-- `exports::put::put_bytes` meets its contract.
+-- Assumes nothing.
+use Prim.Native.Nat.{_-_}
+use native.Mathlib.Omega.{arith}
+use lib.ListN.{length}
+use borrow.Author.Needs.{needs}
+use Rattle.exports.proofs.Putting.{Putting, begins, turns, done}
+use Rattle.exports.proofs.put.put_bytes.Statement.{statement}
+use Rattle.exports.proofs.put.put_bytes.Tie as tie
+
+abbrev Inv-loop : tie.InvT-loop
+Inv-loop out₀ at bytes i₀ out i = Putting out₀ at bytes out i
+
+abbrev μ-loop : tie.MeasureT-loop
+μ-loop out₀ at bytes i₀ out i = length bytes - i
+
+pub put-bytes-spec : {M : Type 1} → statement M
+put-bytes-spec =
+    tie.close
+    (tie.spec
+    Inv-loop
+    μ-loop
+    (λ c. search (needs, begins))
+    (λ c. search needs)
+    (λ c κs. search needs)
+    (λ c. search needs)
+    (λ c. search needs)
+    (λ c. search needs)
+    (λ c. search needs)
+    (λ c. search needs)
+    (λ c. search (needs, turns))
+    (λ c. search needs)
+    (λ c. search (needs, done)))

@@ -1,0 +1,33 @@
+-- `exports::put::put_numbers` meets its contract.
+-- Assumes nothing.
+use Prim.Native.Nat.{_-_}
+use native.Mathlib.Omega.{arith}
+use lib.ListN.{length}
+use borrow.Author.Needs.{needs}
+use Rattle.exports.proofs.Putting.{Putting, begins, turns, done}
+use Rattle.exports.proofs.put.put_numbers.Statement.{statement}
+use Rattle.exports.proofs.put.put_numbers.Tie as tie
+
+abbrev Inv-loop : tie.InvT-loop
+Inv-loop out₀ at numbers i₀ out i = Putting out₀ at numbers out i
+
+abbrev μ-loop : tie.MeasureT-loop
+μ-loop out₀ at numbers i₀ out i = length numbers - i
+
+pub put-numbers-spec : {M : Type 1} → statement M
+put-numbers-spec =
+    tie.close
+    (tie.spec
+    Inv-loop
+    μ-loop
+    (λ c. search (needs, begins))
+    (λ c. search needs)
+    (λ c. search needs)
+    (λ c. search needs)
+    (λ c. search needs)
+    (λ c. search needs)
+    (λ c. search needs)
+    (λ c. search needs)
+    (λ c. search (needs, turns))
+    (λ c. search needs)
+    (λ c. search (needs, done)))

@@ -1,0 +1,34 @@
+-- `exports::put::put_words` meets its contract.
+-- Assumes nothing.
+use Prim.Native.Nat.{_-_}
+use native.Mathlib.Omega.{arith}
+use lib.ListN.{length}
+use borrow.Author.Needs.{needs}
+use Rattle.exports.proofs.Putting.{Putting, begins, turns, done}
+use Rattle.exports.proofs.put.put_words.Statement.{statement}
+use Rattle.exports.proofs.put.put_words.Tie as tie
+
+abbrev Inv-loop : tie.InvT-loop
+Inv-loop out₀ at words i₀ out i = Putting out₀ at words out i
+
+abbrev μ-loop : tie.MeasureT-loop
+μ-loop out₀ at words i₀ out i = length words - i
+
+pub put-words-spec : {M : Type 1} → statement M
+put-words-spec =
+    tie.close
+    (tie.spec
+    Inv-loop
+    μ-loop
+    (λ c. search (needs, begins))
+    (λ c. search needs)
+    (λ c. search needs)
+    (λ c κs. search needs)
+    (λ c. search needs)
+    (λ c. search needs)
+    (λ c. search needs)
+    (λ c. search needs)
+    (λ c. search needs)
+    (λ c. search (needs, turns))
+    (λ c. search needs)
+    (λ c. search (needs, done)))

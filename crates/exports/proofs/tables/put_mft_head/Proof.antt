@@ -1,0 +1,24 @@
+-- `exports::tables::put_mft_head` meets its contract.
+-- Assumes nothing.
+use borrow.Author.Needs.{needs}
+use Rattle.exports.proofs.tables.put_mft_head.Statement.{statement}
+use Rattle.exports.proofs.tables.put_mft_head.Tie as tie
+
+returns : tie.Need-returns
+returns c = rw (c .before .before .before .before .before .before .before .before .before .before .mft-type .ensures) at (c .before .before .put-numbers .ensures)
+
+pub put-mft-head-spec : {M : Type 1} → statement M
+put-mft-head-spec =
+    tie.close
+    (tie.spec
+    (λ c κs. search needs)
+    (λ c. search needs)
+    (λ c. search needs)
+    (λ c. search needs)
+    (λ c. search needs)
+    (λ c. search needs)
+    (λ c. search needs)
+    (λ c. search needs)
+    (λ c κs. search needs)
+    (λ c. search needs)
+    returns)
