@@ -26,7 +26,8 @@ use std::sync::{Arc, Mutex, mpsc};
 use std::time::Instant;
 
 const BATCH: u64 = 10_000;
-const ENOUGH: u64 = 1_000; // times that each answer must be seen in a run of a million jobs or more
+const ENOUGH: u64 = 1_000; // times that each refusal must be seen
+const LONG: u64 = 10_000_000; // jobs of a run of which that is asked
 
 /// Where our answer and moxcms's are of another kind by design.
 const EXCEPTIONS: [&str; 3] =
@@ -204,7 +205,7 @@ impl Counts {
 
     /// The refusals that a long run has not seen often enough.
     fn rare(&self) -> Vec<String> {
-        if self.by_work.values().sum::<u64>() < 1_000_000 {
+        if self.by_work.values().sum::<u64>() < LONG {
             return vec![];
         }
         let all = (1..).zip(REFUSALS).flat_map(|(reader, numbers)| numbers.iter().map(move |number| (format!("refused {number:>2}"), reader)));
