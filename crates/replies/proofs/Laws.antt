@@ -64,6 +64,10 @@ module _ (n : ℕ) (l : List ℕ) (e : length l ≡ n) where
   pub mark-ends : (i : ℕ) → length l ≤ i → sets l i (drop i (marked n)) ≡ marked n → l ≡ marked n
   mark-ends i h w = fill-ends (marked n) l i (omega (arith, marks-length 0 n)) w
 
+-- a job has at most 8,192 words, and word k is marked with k
+pub job-mark : (n k : ℕ) → n ≤ 8192 → k < n → getD (marked n) k 0 ≡ 0xA5A50000 + k
+job-mark n k h l = let e : markAt (0 + k) ≡ 0xA5A50000 + k = omega arith in mark-is 0 n k l ∙ e
+
 -- ---- answers with the lent words behind them
 
 module _ (job : StreamJob) (p w : List ℕ) {k l m after : List ℕ} {e r : ℕ} where
@@ -131,7 +135,7 @@ module _ (job : StreamJob) (p w b : List ℕ) (index : StreamIndex) where
   unfolding replyOf
   by-13 e = rw e
 
-  pub by-others : (job .reader ≡ 1 → ⊥) → (job .reader ≡ 3 → ⊥) → (job .reader ≡ 11 → ⊥) → (job .reader ≡ 13 → ⊥) → plain job p w (plainOf job p) ≡ replyOf job p w b index
+  pub by-others : (job .reader ≡ 1 → ⊥) → (job .reader ≡ 3 → ⊥) → (job .reader ≡ 11 → ⊥) → (job .reader ≡ 13 → ⊥) → plain w (plainOf job p) ≡ replyOf job p w b index
   unfolding replyOf
   by-others n1 n3 n11 n13 = simp (ne-eqb _ _ n1, ne-eqb _ _ n3, ne-eqb _ _ n11, ne-eqb _ _ n13)
 

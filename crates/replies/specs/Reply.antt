@@ -42,32 +42,12 @@ pub record Reply : Type 0 where
   pub text : List ℕ
   pub left : List ℕ
 
-module _ (job : StreamJob) (profile words : List ℕ) where
-  -- an answer that uses no words
-  abbrev pub plain : List ℕ → Reply
-  plain text = record { text = text; left = words }
+-- an answer that uses no words, and one with the words behind it
+abbrev pub plain : List ℕ → List ℕ → Reply
+plain words text = record { text = text; left = words }
 
-  -- an answer with the words behind it
-  abbrev pub lent : List ℕ → List ℕ → Reply
-  lent text left = record { text = text ++ lentText left; left = left }
-
-  -- a lookup table, and the words that its reader leaves
-  abbrev pub lutAnswer : Walk → Answer
-  lutAnswer walk = lutOf walk (job .entries) (job .points) profile (job .offset) (job .size) (length words)
-
-  abbrev pub lutTag : List ℕ
-  lutTag = tagOf profile (job .offset) (job .size)
-
-  abbrev pub lutLeft : Walk → List ℕ
-  lutLeft walk = leftBy (lutAnswer walk .state) (recordsOf (curvesOf walk (job .entries) lutTag (planOf lutTag))) words
-
-  abbrev pub lutReply : Walk → Reply
-  lutReply walk = lent (lutText (lutAnswer walk)) (lutLeft walk)
-
-  abbrev pub stringReply : Reply
-  stringReply =
-      let a = stringOf profile (job .offset) (job .size) (length words) in
-      lent (stringText a) (Text·leftBy a (wordsIn (recordsIn (Text·tagOf profile (job .offset) (job .size)) .records)) words)
+abbrev pub lent : List ℕ → List ℕ → Reply
+lent text left = record { text = text ++ lentText left; left = left }
 
 -- the entry at a grid index of the table that was answered; one of more than sixteen coordinates is nowhere
 unfoldable pub entryAt : State → List ℕ → List ℕ → StreamIndex → Told
@@ -82,9 +62,29 @@ viewText (State.abm f) t behind index = entryText (entryAt (State.abm f) t behin
 viewText State.absent t behind index = absentWord
 viewText (State.refused n) t behind index = refusedText n
 
-abbrev pub viewReply : StreamJob → List ℕ → List ℕ → List ℕ → StreamIndex → Reply
-viewReply job profile words behind index =
-    record { text = viewText (lutAnswer job profile words Crate .state) (lutTag job profile words) behind index; left = lutLeft job profile words Crate }
+abbrev pub lutTag : StreamJob → List ℕ → List ℕ
+lutTag job profile = tagOf profile (job .offset) (job .size)
+
+module _ (job : StreamJob) (profile words : List ℕ) where
+  -- a lookup table, and the words that its reader leaves
+  abbrev pub lutAnswer : Walk → Answer
+  lutAnswer walk = lutOf walk (job .entries) (job .points) profile (job .offset) (job .size) (length words)
+
+  abbrev pub lutLeft : Walk → List ℕ
+  lutLeft walk = leftBy (lutAnswer walk .state) (recordsOf (curvesOf walk (job .entries) (lutTag job profile) (planOf (lutTag job profile)))) words
+
+  abbrev pub lutReply : Walk → Reply
+  lutReply walk = lent (lutText (lutAnswer walk)) (lutLeft walk)
+
+  -- text
+  abbrev pub stringReply : Reply
+  stringReply =
+      let a = stringOf profile (job .offset) (job .size) (length words) in
+      lent (stringText a) (Text·leftBy a (wordsIn (recordsIn (Text·tagOf profile (job .offset) (job .size)) .records)) words)
+
+  -- one entry of a table that is read on the crate walk
+  abbrev pub viewReply : List ℕ → StreamIndex → Reply
+  viewReply behind index = record { text = viewText (lutAnswer Crate .state) (lutTag job profile) behind index; left = lutLeft Crate }
 
 -- by the reader that a job names: 1 to 13
 unfoldable pub replyOf : StreamJob → List ℕ → List ℕ → List ℕ → StreamIndex → Reply
@@ -94,13 +94,13 @@ replyOf job profile words behind index =
     cond (eqb r 3) (stringReply job profile words) (
     cond (eqb r 11) (lutReply job profile words Book) (
     cond (eqb r 13) (viewReply job profile words behind index) (
-    plain job profile words (plainOf job profile)))))
+    plain words (plainOf job profile)))))
 
 -- a line ends; a bad job has none
 abbrev pub answerTo : StreamTail → StreamJob → List ℕ → List ℕ → List ℕ → Reply
 answerTo (StreamTail.Index index) job profile words behind =
     let a = replyOf job profile words behind index in record { text = a .text ++ (0x0a ∷ []); left = a .left }
-answerTo StreamTail.BadJob job profile words behind = plain job profile words []
+answerTo StreamTail.BadJob job profile words behind = plain words []
 
 -- a job, its profile, the bytes behind it, and so many words lent
 unfoldable pub answerOf : StreamJob → List ℕ → List ℕ → ℕ → Reply
