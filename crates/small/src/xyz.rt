@@ -26,7 +26,7 @@ pub enum XyzAnswer {
 }
 
 // The three numbers from `at` on.
-pub(crate) fn xyz_at(tag: &[u8], at: u32) -> XyzNumber
+fn xyz_at(tag: &[u8], at: u32) -> XyzNumber
     ensures { λ r. ⌜ triple r ≡ wordsAt (now (tag .entry)) at 3 ⌝ }
 {
     XyzNumber {
