@@ -1,12 +1,11 @@
 -- What is told of a result: of one that a `match` took apart, of the answer that it stands for, and by the room of `out`.
 -- Assumes nothing.
 use Prim.Native.Nat.{ℕ, _≤_, _<_}
-use mathlib.Core.Path.{_≡_, refl, ap}
-use mathlib.Core.List.{List, []}
+use mathlib.Core.Path.{_≡_, refl}
+use mathlib.Core.List.{List}
 use lib.ListN.{length}
-use lib.Seq.{sets}
 use borrow.Author.Tests.{lt-ltb, le-ltb}
-use Rattle.exports.specs.Told.{Told, value, only, within, Gave, GaveWith}
+use Rattle.exports.specs.Told.{Told, within, Gave, GaveWith}
 
 -- of a result that is x
 pub tells : {A : Type 0} (tell : A → Told) {got x : A} {r : ℕ} {before after : List ℕ} → got ≡ x → Gave (tell x) r before after → Gave (tell got) r before after

@@ -1,6 +1,6 @@
 -- The status and the words of each reader's answer; each layout begins with the type's signature where the reader serves several types.
 use Prim.Native.Nat.{ℕ}
-use mathlib.Core.Bool.{Bool, cond}
+use mathlib.Core.Bool.{cond}
 use mathlib.Core.List.{List, [], _∷_, _++_}
 use lib.Dec.{eqb}
 use lib.ListN.{length}

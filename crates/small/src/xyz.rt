@@ -14,7 +14,7 @@ ghost use Rattle.small_meaning.specs.Answer.{triple, paperXyz};
 ghost use Rattle.small_meaning.specs.Small.{tripleOf, xyzOf};
 
 // The three numbers from `at` on.
-pub(crate) fn xyz_at(tag: &[u8], at: u32) -> XyzNumber
+fn xyz_at(tag: &[u8], at: u32) -> XyzNumber
     ensures { λ r. ⌜ triple r ≡ wordsAt (now (tag .entry)) at 3 ⌝ }
 {
     XyzNumber {

@@ -35,8 +35,8 @@ impl Room {
     }
 }
 
-fn kind(status: u32, room: &Room) -> Kind {
-    black_box(&room.out);
+/// What a status says. A default counts as an absence.
+pub fn kind(status: u32) -> Kind {
     match status {
         0 => Kind::Value,
         100 | 101 => Kind::Absent,
@@ -44,15 +44,16 @@ fn kind(status: u32, room: &Room) -> Kind {
     }
 }
 
-/// Our reader, on the crate walk. A default counts as an absence.
-pub fn reader(of: Reader) -> for<'a> fn(&Tag, &'a mut Room) -> Kind {
+/// Our reader, on the crate walk: one call, and its status.
+pub fn reader(of: Reader) -> fn(&Tag, &mut Room) -> u32 {
     macro_rules! call {
         ($name:ident, $tag:ident, $room:ident $(, $more:expr)*) => {{
             let (profile, offset, size) = (black_box(&$tag.profile), black_box($tag.offset), black_box($tag.size));
             let status = unsafe {
                 $name(profile.as_ptr(), profile.len(), offset, size $(, $more)*, $room.out.as_mut_ptr(), $room.out.len())
             };
-            kind(status, $room)
+            black_box(&$room.out);
+            status
         }};
     }
     match of {
