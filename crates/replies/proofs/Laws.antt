@@ -79,15 +79,18 @@ module _ (job : StreamJob) (p w : List ℕ) {k l m after : List ℕ} {e r : ℕ}
 
 -- ---- the table view
 
+never : {A : Type 0} → _≡_ {A = ℕ} 0 1 → A
+never z = absurd (omega arith)
+
 -- a job's coordinates are there
 pub tail-room : (reader : ℕ) (b : List ℕ) (index : StreamIndex) (n channel : ℕ) → tailOf reader b ≡ StreamTail.Index index → index ≡ StreamIndex.At n channel → 1 + n ≤ length b
 unfolding tailOf
 tail-room reader b index n channel t f =
-    each P (ltb reader 1) _ _ (λ _ e. let z : _≡_ {A = ℕ} 0 1 = cc in absurd (omega arith))
-    (λ _. each P (ltb 13 reader) _ _ (λ _ e. let z : _≡_ {A = ℕ} 0 1 = cc in absurd (omega arith))
-    (λ _. each P (ltb reader 13) _ _ (λ _ e. let z : _≡_ {A = ℕ} 0 1 = cc in absurd (omega arith))
-    (λ _. each P (ltb (length b) 18) _ _ (λ _ e. let z : _≡_ {A = ℕ} 0 1 = cc in absurd (omega arith))
-    (λ long. each P (ltb 16 (getD b 0 0)) _ _ (λ _ e. let z : _≡_ {A = ℕ} 0 1 = cc in absurd (omega arith))
+    each P (ltb reader 1) _ _ (λ _ e. never (cc))
+    (λ _. each P (ltb 13 reader) _ _ (λ _ e. never (cc))
+    (λ _. each P (ltb reader 13) _ _ (λ _ e. never (cc))
+    (λ _. each P (ltb (length b) 18) _ _ (λ _ e. never (cc))
+    (λ long. each P (ltb 16 (getD b 0 0)) _ _ (λ _ e. never (cc))
     (λ few e. let q : getD b 0 0 ≡ n = cc in omega (arith, ltb-false (length b) 18 long, ltb-false 16 (getD b 0 0) few)))))) (t ∙ ap StreamTail.Index f)
   where
     P : StreamTail → Type 0

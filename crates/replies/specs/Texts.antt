@@ -3,7 +3,7 @@ use Prim.Native.Nat.{ℕ}
 use mathlib.Core.List.{List, [], _∷_, _++_}
 use Rattle.lines.specs.Text.{number, numerals, numbers}
 use Rattle.lut_meaning.specs.Answer.{State, Answer as Lut·Answer}
-use Rattle.text_meaning.specs.Answer.{Span, Answer as Text·Answer}
+use Rattle.text_meaning.specs.Answer.{Answer as Text·Answer}
 use Rattle.table.specs.Answer.{Told}
 use Rattle.plain_replies.specs.Words.{valueWord, absentWord, refusedText}
 use Rattle.replies.specs.Words.{textWord, descWord, mlucWord, mftWord, abmWord, bar}
