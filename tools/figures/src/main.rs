@@ -7,41 +7,11 @@
 //! First both must give the same kind of answer: a value, an absence, a refusal. Then a round is as many calls as fill four
 //! milliseconds of processor time, ours and the Rust's by turns, and the figure is the median of the rounds. Our side writes its words into lent
 //! memory, the Rust's returns a value that is dropped; both are part of the call.
-//!
-//! The modules named in the first list are moxcms's files, put beside this one by ../build.
-#![allow(dead_code, unused_imports, unused_macros, unreachable_pub)]
-
-mod cicp;
-mod dat;
-mod err;
-mod helpers;
-mod matan;
-mod math;
-mod matrix;
-mod mlaf;
-mod profile;
-mod reader;
-mod safe_math;
-mod tag;
-mod trc;
-mod writer;
 
 mod ours;
-mod stand_ins;
 mod tags;
 
-// moxcms's files find each other, and what they need from elsewhere, under the names of its own lib.rs.
-extern crate self as num_traits;
-extern crate self as pxfm;
-pub use cicp::{CicpColorPrimaries, ColorPrimaries, MatrixCoefficients, TransferCharacteristics};
-pub use dat::ColorDateTime;
-pub use err::{CmsError, MalformedSize};
-pub use math::rounding_div_ceil;
-pub use matrix::*;
-pub use profile::*;
-pub use stand_ins::*;
-pub use trc::{GammaLutInterpolate, ParametricCurve, ToneCurveEvaluator, ToneReprCurve, curve_from_gamma};
-
+use oracle::{CmsError, ParsingOptions, called};
 use std::hint::black_box;
 use tags::{Reader, Tag};
 
@@ -78,32 +48,6 @@ fn kind<T>(answer: Result<Option<T>, CmsError>) -> Kind {
         Ok(Some(_)) => Kind::Value,
         Ok(None) => Kind::Absent,
         Err(_) => Kind::Refused,
-    }
-}
-
-/// moxcms's readers, called and not inlined, as ours are.
-mod called {
-    use crate::*;
-
-    macro_rules! called {
-        ($($name:ident($entry:ty $(, $more:ident: $of:ty)*) -> $answer:ty;)*) => {
-            $(#[inline(never)]
-            pub fn $name(profile: &[u8], entry: $entry, size: usize $(, $more: $of)*) -> Result<$answer, CmsError> {
-                ColorProfile::$name(profile, entry, size $(, $more)*)
-            })*
-        };
-    }
-    called! {
-        read_lut_tag(u32, options: &ParsingOptions) -> Option<LutWarehouse>;
-        read_trc_tag(usize, consumed: &mut usize, options: &ParsingOptions) -> Option<ToneReprCurve>;
-        read_string_tag(usize) -> Option<ProfileText>;
-        read_chad_tag(usize) -> Option<Matrix3d>;
-        read_tech_tag(usize) -> Option<TechnologySignatures>;
-        read_date_time_tag(usize) -> Option<ColorDateTime>;
-        read_meas_tag(usize) -> Option<Measurement>;
-        read_viewing_conditions(usize) -> Option<ViewingConditions>;
-        read_xyz_tag(usize) -> Xyzd;
-        read_cicp_tag(usize) -> Option<CicpProfile>;
     }
 }
 

@@ -20,20 +20,20 @@ pub type Answer = Result<Option<Value>, CmsError>;
 pub fn call(reader: u8, profile: &[u8], offset: u32, size: u32, options: &ParsingOptions) -> Option<Answer> {
     let (entry, size) = (offset as usize, size as usize);
     Some(match reader {
-        1 => some(ColorProfile::read_lut_tag(profile, offset, size, options), Value::Table),
+        1 => some(called::read_lut_tag(profile, offset, size, options), Value::Table),
         2 => {
             let mut consumed = 0;
-            let curve = ColorProfile::read_trc_tag(profile, entry, size, &mut consumed, options);
+            let curve = called::read_trc_tag(profile, entry, size, &mut consumed, options);
             some(curve, |c| Value::Curve(c, consumed))
         }
-        3 => some(ColorProfile::read_string_tag(profile, entry, size), Value::Text),
-        4 => some(ColorProfile::read_chad_tag(profile, entry, size), Value::Chad),
-        5 => some(ColorProfile::read_tech_tag(profile, entry, size), Value::Technology),
-        6 => some(ColorProfile::read_date_time_tag(profile, entry, size), Value::Date),
-        7 => some(ColorProfile::read_meas_tag(profile, entry, size), Value::Measurement),
-        8 => some(ColorProfile::read_viewing_conditions(profile, entry, size), Value::Conditions),
-        9 => some(ColorProfile::read_xyz_tag(profile, entry, size).map(Some), Value::Xyz),
-        10 => some(ColorProfile::read_cicp_tag(profile, entry, size), Value::Cicp),
+        3 => some(called::read_string_tag(profile, entry, size), Value::Text),
+        4 => some(called::read_chad_tag(profile, entry, size), Value::Chad),
+        5 => some(called::read_tech_tag(profile, entry, size), Value::Technology),
+        6 => some(called::read_date_time_tag(profile, entry, size), Value::Date),
+        7 => some(called::read_meas_tag(profile, entry, size), Value::Measurement),
+        8 => some(called::read_viewing_conditions(profile, entry, size), Value::Conditions),
+        9 => some(called::read_xyz_tag(profile, entry, size).map(Some), Value::Xyz),
+        10 => some(called::read_cicp_tag(profile, entry, size), Value::Cicp),
         _ => return None,
     })
 }

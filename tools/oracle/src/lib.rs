@@ -20,6 +20,7 @@ mod writer;
 
 pub mod answer;
 pub mod call;
+pub mod called;
 pub mod label;
 mod stand_ins;
 
