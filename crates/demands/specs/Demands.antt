@@ -211,7 +211,7 @@ pub record Demand2 (l : Library) : Type 0 where
   -- lut8Type and lut16Type
   pub mft-accepted : (walk : Walk) (c : Call) → TagInside c → MftLaidOut (tag c) → MftAsked (c .points) (tag c) → MftSaid l walk c
   pub mft-laid : (walk : Walk) (c : Call) (f : Fields) → says l (lut walk) c .state ≡ mft f → MftLaidOut (tag c) × MftAsked (c .points) (tag c) × MftSaid l walk c
-  -- textType, textDescriptionType and multiLocalizedUnicodeType; what is taken besides stands in text/specs/Standard.antt
+  -- textType, textDescriptionType and multiLocalizedUnicodeType; what is taken besides stands in text_meaning/specs/Standard.antt
   pub text-accepted : (c : Call) (n : ℕ) → TagInside c → TextType (tag c) n → says l string c ≡ Text·Answer.text (span textStart n)
   pub text-taken : (c : Call) (s : Span) → says l string c ≡ Text·Answer.text s → TextTaken (tag c) s
   pub desc-accepted : (c : Call) (n m : ℕ) → TagInside c → TextDescriptionType (tag c) n m → let at : ℕ = asciiEnd (tag c) in says l string c ≡ Text·Answer.desc (span asciiStart n) record { language = unicodeLanguage (tag c) at; string = unicodeRange (tag c) at m }

@@ -45,7 +45,7 @@ fn read_kind(tag: &[u8], limit: u64, points: u64, walk: Walk, slots: &mut [u32])
 
 // The lookup table whose tag stands at `entry`, of `size` bytes; a size of 0 counts as 12. A curve may have `limit` entries, and the grid
 // of `mft1` and `mft2` so many `points`. The records of the curves of `mAB ` and `mBA ` go into `slots`, RECORD_WORDS words each, runs A, M
-// and B one behind the other. Of these types alone does the walk make a difference.
+// and B one behind the other; for `mft1` and `mft2` the walk makes no difference.
 pub fn read_lut_tag(
     profile: &[u8],
     entry: Entry,

@@ -1,5 +1,5 @@
 -- The layouts and the meanings case by case, as the code meets them: each law takes what the tests and the calls on the way told. What
--- stands behind the shared order is in Order.antt.
+-- stands behind the shared order is in Order.antt of `small_meaning`.
 -- Assumes nothing.
 use Prim.Native.Nat.{ℕ, _+_, _-_, _/_, _≤_, _<_}
 use native.Mathlib.Omega.{arith}
