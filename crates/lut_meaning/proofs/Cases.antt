@@ -18,4 +18,4 @@ use Rattle.lut_meaning.specs.Judged.{ended}
 
 pub claim : All cases
 unfolding All Holds lutOf byType isMft isWide abmOf judgedOf recordedOf valueFrom tableOf product runsJudged curvesOf matrixJudged ended present deviceChannels spaceChannels aCurves mCurves bCurves planOf recordsNeeded gridOf matrixOf biasOf bytesAt wordsAt runAt entryAt raised recordsOf curveOf curvOf paraOf divides parameterCount sizeOf stepOf wordsOf signatureOf
-claim = ((refl, refl), ((refl, refl), ((refl, refl), ((refl, refl), ((refl, refl), ((refl, refl), ((refl, refl), ((refl, refl), tt))))))))
+claim = ((refl, refl), ((refl, refl), ((refl, refl), ((refl, refl), ((refl, refl), ((refl, refl), ((refl, refl), ((refl, refl), ((refl, refl), tt)))))))))

@@ -8,7 +8,7 @@ use Rattle.fields.specs.House.{houseEntries, housePoints}
 use Rattle.curve.specs.declared.Walk.{Walk}
 use Rattle.curve.specs.declared.Walk.the-variants.{Crate, Book}
 use Rattle.run.specs.Run.{recordWords, recordsOf}
-use Rattle.lut_meaning.specs.Answer.{State, abm, Answer, refuse, leftBy}
+use Rattle.lut_meaning.specs.Answer.{State, abm, Answer, none, refuse, leftBy}
 use Rattle.lut_meaning.specs.Layout.{planOf}
 use Rattle.lut_meaning.specs.Lut.{lutOf, tagOf}
 use Rattle.lut_meaning.specs.Parts.{curvesOf}
@@ -47,6 +47,10 @@ tag = head 3 3 32 0 0 ++ emptyCurve ++ emptyCurve ++ straightCurve
 -- one input and two outputs, only M curves, at 32: two empty ones
 abbrev pub tagOfM : List ℕ
 tagOfM = head 1 2 0 0 32 ++ emptyCurve ++ emptyCurve
+
+-- five channels on each side, only B curves, at 32, of which the first is empty
+abbrev pub tagOfFive : List ℕ
+tagOfFive = head 5 5 32 0 0 ++ emptyCurve ++ (0 ∷ 0 ∷ 0 ∷ 0 ∷ [])
 
 -- only a matrix, at 32: the numbers 1 to 9, and behind them the bias, 10 to 12
 abbrev pub tagOfMatrix : List ℕ
@@ -89,6 +93,8 @@ cases =
     gives Book tag 72 (slots 4) (plain threeB) (emptyAt 44 ++ emptyAt 56 ++ straightAt 68 ++ slots 1) ∷
     gives Crate tag 72 (slots 2) (refuse 14) (slots 2) ∷
     gives Book tag 72 (slots 2) (refuse 14) (slots 2) ∷
+    -- more than four channels on each side are absent, whatever the curves
+    gives Crate tagOfFive 48 (slots 5) none (slots 5) ∷
     -- a run that is cut off is refused before the slots are counted
     gives Book tag 60 [] (refuse 2) [] ∷
     gives Book tagOfM 56 (slots 2) (plain (curvesOnly 1 2 2 0)) (emptyAt 44 ++ emptyAt 56) ∷
