@@ -12,7 +12,7 @@ use Rattle.curve.specs.Curve.{trcOf, curveOf, tableOf as curvOf, paraOf, divide
 use Rattle.curve.specs.Layout.{parameterCount}
 use Rattle.curve.specs.Shape.{sizeOf, stepOf, wordsOf}
 use Rattle.mft.specs.Layout.{isWide, isMft}
-use Rattle.run.specs.Run.{raised, entryAt, runAt, recordsOf}
+use Rattle.run.specs.Run.{Each, raised, entryAt, runAt, recordsOf}
 use Rattle.lut_meaning.specs.Abm.{tableOf, valueFrom, recordedOf, judgedOf, abmOf}
 use Rattle.lut_meaning.specs.Layout.{present, deviceChannels, spaceChannels, aCurves, mCurves, bCurves, planOf, recordsNeeded, gridOf, matrixOf, biasOf}
 use Rattle.lut_meaning.specs.Lut.{byType, lutOf}
@@ -20,8 +20,8 @@ use Rattle.lut_meaning.specs.Parts.{runsJudged, curvesOf, matrixJudged}
 use Rattle.lut_meaning.specs.Judged.{ended}
 use Rattle.text_meaning.specs.Mluc.{even, recordAt, recordsFrom, recordsAsked, recordsIn, wordsIn}
 use Rattle.text_meaning.specs.Text.{slottedOf, mlucOf, byType as stringByType, stringOf}
-use Rattle.demands.specs.Cases.{All, Holds, cases}
+use Rattle.demands.specs.Cases.{Holds, cases}
 
-pub claim : All cases
-unfolding All Holds signedParameters numbersIn trcOf answerOf lutOf byType isMft isWide abmOf judgedOf recordedOf valueFrom tableOf clutOf shapeOf some partials product pointOf runsJudged curvesOf matrixJudged ended present deviceChannels spaceChannels aCurves mCurves bCurves planOf recordsNeeded gridOf matrixOf biasOf bytesAt wordsAt runAt entryAt raised recordsOf curveOf curvOf paraOf divides parameterCount sizeOf stepOf wordsOf stringOf stringByType slottedOf mlucOf recordsIn recordsAsked recordsFrom recordAt even wordsIn signatureOf
+pub claim : Each Holds cases
+unfolding Each Holds signedParameters numbersIn trcOf answerOf lutOf byType isMft isWide abmOf judgedOf recordedOf valueFrom tableOf clutOf shapeOf some partials product pointOf runsJudged curvesOf matrixJudged ended present deviceChannels spaceChannels aCurves mCurves bCurves planOf recordsNeeded gridOf matrixOf biasOf bytesAt wordsAt runAt entryAt raised recordsOf curveOf curvOf paraOf divides parameterCount sizeOf stepOf wordsOf stringOf stringByType slottedOf mlucOf recordsIn recordsAsked recordsFrom recordAt even wordsIn signatureOf
 claim = (refl, (refl, ((refl, refl), ((refl, refl), ((refl, refl), (refl, (refl, ((refl, refl), ((refl, refl), (refl, (refl, (refl, (refl, ((refl, refl), ((refl, refl), (refl, ((refl, refl), ((refl, refl), (refl, (refl, tt))))))))))))))))))))

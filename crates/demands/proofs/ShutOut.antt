@@ -27,7 +27,7 @@ use Rattle.lut_meaning.specs.Standard.{LaidOut, Asked, Row}
 use Rattle.lut_meaning.proofs.Conforms.{conforms-curves}
 use Rattle.demands.specs.Readers.{lut, xyz, Call, Library, Promised}
 use Rattle.demands.specs.Demands.{tag, Demand1, Demand2, AbmSaid}
-use Rattle.demands.specs.Cases.{All, Holds, call, lone}
+use Rattle.demands.specs.Cases.{Holds, call, lone}
 use Rattle.demands.specs.Wrong.{refusesAll, alwaysDefault, alwaysIdentity, unwritten, copied, madeUp, tooEarly, copies, oneCurve, ShutOut}
 use Rattle.demands.proofs.Cases.{claim}
 use Rattle.demands.proofs.Ends.{ends-so}
@@ -141,7 +141,7 @@ count-made-up l d =
 
 -- with two slots the call is refused, and the first word would be that of a record
 written-too-early : (l : Library) → Promised l → Demand1 (tooEarly l) → ⊥
-unfolding recordsOf wordsOf All Holds
+unfolding recordsOf wordsOf Each Holds
 written-too-early l p d =
     let c : Call = call threeCurves 72 (slots 2) in
     let refused-14 = ends-so l p (lut Book) c ∙ claim .1 .1 .1 .1 .1 .1 .1 .1 .1 .1 .1 .1 .1 .1 .0 .0 in

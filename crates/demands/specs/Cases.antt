@@ -35,10 +35,6 @@ Holds (refuses r c n) = (outcome r (meaning r c) ≡ refused n) × (left r c ≡
 Holds (means c zs) = signedParameters (trcOf Crate (c .entries) (c .profile) 0 (c .size)) ≡ zs
 Holds (counts t inputs outputs ns) = numbersIn (clutOf t 0 inputs outputs) ≡ ns
 
-unfoldable pub All : List Case → Type 0
-All [] = Unit
-All (c ∷ cs) = Holds c × All cs
-
 -- a profile, a size and the words lent, under the house defaults; and a lone curve under another limit
 abbrev pub call : List ℕ → ℕ → List ℕ → Call
 call profile size slots =

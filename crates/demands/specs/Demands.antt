@@ -194,8 +194,8 @@ Shows l t n table bytes =
     → (Table·paper (l .reads t n index channel) ≡ Told.value (storedAt t (table .start + numberOf table index channel * table .size) (table .size)))
     × (numberOf table index channel * table .size + table .size ≤ bytes)
 
--- answers are those of the definitions, and these conform to the standards' layouts, both ways, apart from what the conditions name; each
--- condition is an entry of docs/DIFFERENCES.md
+-- answers are those of the definitions, and these conform to the standards' layouts, both ways. What the conditions ask of a tag besides is
+-- listed in docs/DIFFERENCES.md
 pub record Demand2 (l : Library) : Type 0 where
   pub promised : Promised l
   -- one call, one answer

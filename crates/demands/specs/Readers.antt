@@ -7,15 +7,11 @@ use Rattle.curve.specs.Answer.{Answer as Curve·Answer, paper as Curve·paper}
 use Rattle.curve.specs.Curve.{trcOf}
 use Rattle.curve.specs.declared.CurveAnswer.{CurveAnswer}
 use Rattle.curve.specs.declared.Walk.{Walk}
-use Rattle.run.specs.Run.{recordsOf}
-use Rattle.lut_meaning.specs.Answer.{State, Answer as Lut·Answer, paper as Lut·paper, leftBy as Lut·leftBy}
-use Rattle.lut_meaning.specs.Layout.{planOf}
-use Rattle.lut_meaning.specs.Lut.{lutOf, tagOf as Lut·tagOf}
-use Rattle.lut_meaning.specs.Parts.{curvesOf}
+use Rattle.lut_meaning.specs.Answer.{State, Answer as Lut·Answer, paper as Lut·paper}
+use Rattle.lut_meaning.specs.Lut.{lutOf, leftOf as Lut·leftOf}
 use Rattle.lut_meaning.specs.declared.Lut.{Lut}
-use Rattle.text_meaning.specs.Answer.{Answer as Text·Answer, paper as Text·paper, leftBy as Text·leftBy}
-use Rattle.text_meaning.specs.Mluc.{recordsIn, wordsIn}
-use Rattle.text_meaning.specs.Text.{stringOf, tagOf as Text·tagOf}
+use Rattle.text_meaning.specs.Answer.{Answer as Text·Answer, paper as Text·paper}
+use Rattle.text_meaning.specs.Text.{stringOf, leftOf as Text·leftOf}
 use Rattle.text_meaning.specs.declared.TextAnswer.{TextAnswer}
 use Rattle.small_meaning.specs.Answer.{Answer as Small·Answer, paperChad, paperSig, paperDate, paperMeas, paperView, paperXyz, paperCicp}
 use Rattle.small_meaning.specs.Small.{chadOf, sigOf, dateOf, measOf, viewOf, xyzOf, cicpOf}
@@ -114,11 +110,9 @@ meaning (small s) c = smallOf s (c .profile) (c .entry) (c .size)
 
 -- and what it is to leave in the slots: the records that it read, in front, if its answer has records
 abbrev pub left : Reader → Call → List ℕ
-left (lut walk) c =
-    let t = Lut·tagOf (c .profile) (c .entry) (c .size) in
-    Lut·leftBy (meaning (lut walk) c .state) (recordsOf (curvesOf walk (c .entries) t (planOf t))) (c .slots)
+left (lut walk) c = Lut·leftOf walk (c .entries) (c .points) (c .profile) (c .entry) (c .size) (c .slots)
 left (trc walk) c = c .slots
-left string c = Text·leftBy (meaning string c) (wordsIn (recordsIn (Text·tagOf (c .profile) (c .entry) (c .size)) .records)) (c .slots)
+left string c = Text·leftOf (c .profile) (c .entry) (c .size) (c .slots)
 left (small s) c = c .slots
 
 -- the ways in which a call can end

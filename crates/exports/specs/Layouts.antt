@@ -3,21 +3,14 @@ use Prim.Native.Nat.{ℕ}
 use mathlib.Core.Bool.{cond}
 use mathlib.Core.List.{List, [], _∷_, _++_}
 use lib.Dec.{eqb}
-use lib.ListN.{length}
 use Rattle.fields.specs.Tag.{signatureOf}
 use Rattle.fields.specs.declared.Kind.the-variants.{Mft1, Mft2, Mab, Mba, Mluc, Desc, Text}
 use Rattle.curve.specs.Answer.{Answer as Curve·Answer}
 use Rattle.curve.specs.declared.Walk.{Walk}
 use Rattle.curve.specs.declared.Walk.the-variants.{Crate, Book}
 use Rattle.mft.specs.Answer.{Fields}
-use Rattle.lut_meaning.specs.Answer.{Abm, State, Answer as Lut·Answer, leftBy as Lut·leftBy}
-use Rattle.lut_meaning.specs.Layout.{planOf}
-use Rattle.lut_meaning.specs.Lut.{lutOf, tagOf as Lut·tagOf}
-use Rattle.lut_meaning.specs.Parts.{curvesOf}
-use Rattle.run.specs.Run.{recordsOf}
-use Rattle.text_meaning.specs.Answer.{Answer as Text·Answer, leftBy as Text·leftBy}
-use Rattle.text_meaning.specs.Mluc.{recordsIn, wordsIn}
-use Rattle.text_meaning.specs.Text.{stringOf, tagOf as Text·tagOf}
+use Rattle.lut_meaning.specs.Answer.{Abm, State, Answer as Lut·Answer}
+use Rattle.text_meaning.specs.Answer.{Answer as Text·Answer}
 use Rattle.small_meaning.specs.Answer.{Answer as Small·Answer}
 use Rattle.table.specs.Answer.{Told as Entry·Told}
 use Rattle.table.specs.declared.TableNumbers.{TableNumbers}
@@ -48,11 +41,6 @@ textTold (Text·Answer.mluc n) = value (signatureOf Mluc ∷ n ∷ [])
 textTold Text·Answer.absent = absent
 textTold (Text·Answer.refused n) = only n
 
--- what the reader of text leaves in lent slots
-abbrev pub textLeft : List ℕ → ℕ → ℕ → List ℕ → List ℕ
-textLeft profile entry size slots =
-    Text·leftBy (stringOf profile entry size (length slots)) (wordsIn (recordsIn (Text·tagOf profile entry size) .records)) slots
-
 -- `mft1` and `mft2`: the type, channels, grid points, entries; the matrix; the range of each table
 abbrev pub mftHead : Fields → List ℕ
 mftHead f =
@@ -77,12 +65,6 @@ lutBy (State.refused n) grid matrix bias = only n
 
 abbrev pub lutTold : Lut·Answer → Told
 lutTold a = lutBy (a .state) (a .grid) (a .matrix) (a .bias)
-
--- what the reader of lookup tables leaves in lent slots
-abbrev pub lutLeft : Walk → ℕ → ℕ → List ℕ → ℕ → ℕ → List ℕ → List ℕ
-lutLeft walk limit points profile entry size slots =
-    let t = Lut·tagOf profile entry size in
-    Lut·leftBy (lutOf walk limit points profile entry size (length slots) .state) (recordsOf (curvesOf walk limit t (planOf t))) slots
 
 -- the numbers of a table view, one by one
 abbrev pub numbersBy : ℕ → ℕ → ℕ → ℕ → ℕ → ℕ → TableNumbers

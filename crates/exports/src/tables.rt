@@ -23,12 +23,12 @@ ghost use lib.Seq.{sets};
 ghost use Rattle.fields.specs.Tag.{signatureOf};
 ghost use Rattle.fields.specs.declared.Kind.the-variants.{Mft1, Mft2, Mab, Mba};
 ghost use Rattle.lut_meaning.specs.Answer.{paper, tableFrom};
-ghost use Rattle.lut_meaning.specs.Lut.{lutOf};
+ghost use Rattle.lut_meaning.specs.Lut.{lutOf, leftOf};
 ghost use Rattle.mft.specs.Answer.{fieldsFrom};
 ghost use Rattle.table.specs.Answer.{paper as Entry·paper};
 ghost use Rattle.table.specs.View.{entryOf, tableBy};
 ghost use Rattle.exports.specs.Told.{within, Gave, GaveWith};
-ghost use Rattle.exports.specs.Layouts.{walkOf, mftHead, mftRanges, abmHead, abmParts, lutTold, lutLeft, numbersBy, entryTold};
+ghost use Rattle.exports.specs.Layouts.{walkOf, mftHead, mftRanges, abmHead, abmParts, lutTold, numbersBy, entryTold};
 
 // The words of the longest layout, that of `mAB ` and `mBA `.
 const LUT_WORDS: usize = 37;
@@ -162,7 +162,7 @@ pub extern "C" fn khalyksor_read_lut_tag(
     slots: &mut [u32],
     out: &mut [u64],
 ) -> u32
-    ensures { λ r. ⌜ GaveWith 37 (lutTold (lutOf (walkOf walk) limit points (now (profile .entry)) offset size (length (now (slots .entry))))) (lutLeft (walkOf walk) limit points (now (profile .entry)) offset size (now (slots .entry))) r (now (out .entry)) (now (out .exit)) (now (slots .entry)) (now (slots .exit)) ⌝ }
+    ensures { λ r. ⌜ GaveWith 37 (lutTold (lutOf (walkOf walk) limit points (now (profile .entry)) offset size (length (now (slots .entry))))) (leftOf (walkOf walk) limit points (now (profile .entry)) offset size (now (slots .entry))) r (now (out .entry)) (now (out .exit)) (now (slots .entry)) (now (slots .exit)) ⌝ }
 {
     if out.len() < LUT_WORDS {
         return NO_ROOM;

@@ -16,9 +16,9 @@ ghost use lib.Seq.{sets};
 ghost use Rattle.fields.specs.Tag.{signatureOf};
 ghost use Rattle.fields.specs.declared.Kind.the-variants.{Text, Desc};
 ghost use Rattle.text_meaning.specs.Answer.{paper};
-ghost use Rattle.text_meaning.specs.Text.{stringOf};
+ghost use Rattle.text_meaning.specs.Text.{stringOf, leftOf};
 ghost use Rattle.exports.specs.Told.{Gave, GaveWith};
-ghost use Rattle.exports.specs.Layouts.{textTold, textLeft};
+ghost use Rattle.exports.specs.Layouts.{textTold};
 
 // The words of the longest layout, that of `desc`.
 const TEXT_WORDS: usize = 6;
@@ -84,7 +84,7 @@ pub extern "C" fn khalyksor_read_string_tag(
     slots: &mut [u32],
     out: &mut [u64],
 ) -> u32
-    ensures { λ r. ⌜ GaveWith 6 (textTold (stringOf (now (profile .entry)) offset size (length (now (slots .entry))))) (textLeft (now (profile .entry)) offset size (now (slots .entry))) r (now (out .entry)) (now (out .exit)) (now (slots .entry)) (now (slots .exit)) ⌝ }
+    ensures { λ r. ⌜ GaveWith 6 (textTold (stringOf (now (profile .entry)) offset size (length (now (slots .entry))))) (leftOf (now (profile .entry)) offset size (now (slots .entry))) r (now (out .entry)) (now (out .exit)) (now (slots .entry)) (now (slots .exit)) ⌝ }
 {
     if out.len() < TEXT_WORDS {
         return NO_ROOM;

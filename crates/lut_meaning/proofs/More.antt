@@ -26,7 +26,7 @@ use Rattle.run.proofs.Limit.{Over, run-limit}
 use Rattle.lut_meaning.specs.Abm.{tableOf, recordedOf, judgedOf, withTable, abmOf}
 use Rattle.lut_meaning.specs.Answer.{State, mft, abm, absent, refused, Answer, fromMft, orRefused, leftBy}
 use Rattle.lut_meaning.specs.Layout.{inputs, outputs, planOf, recordsNeeded}
-use Rattle.lut_meaning.specs.Lut.{tagOf, isAbm, byType, lutOf}
+use Rattle.lut_meaning.specs.Lut.{tagOf, isAbm, byType, lutOf, leftOf}
 use Rattle.lut_meaning.specs.Parts.{runA, runM, runB, runsJudged, curvesOf, matrixJudged}
 use Rattle.lut_meaning.specs.Judged.{Judged, good, bad, ended, andThen}
 use Rattle.lut_meaning.specs.declared.Plan.{Plan}
@@ -174,16 +174,11 @@ kept a b n v (inr e) = e
 value-kept : {a b : Answer} → b ≡ a → IsValue (a .state) → IsValue (b .state)
 value-kept e v = rw e v
 
--- what a call leaves in the lent slots
-abbrev leftIn : Walk → ℕ → ℕ → List ℕ → ℕ → ℕ → List ℕ → List ℕ
-leftIn walk limit points p entry size slots =
-    leftBy (lutOf walk limit points p entry size (length slots) .state) (recordsOf (curvesOf walk limit (tagOf p entry size) (planOf (tagOf p entry size)))) slots
-
 -- with bytes q behind the profile, higher limits and the slots x behind those lent, a value keeps every field, and every word is left as
 -- before, those of x as they were
 pub record Stays (walk : Walk) (low high : ℕ) (points more : ℕ) (p q : List ℕ) (entry size : ℕ) (slots x : List ℕ) : Type 0 where
   pub answer-stays : lutOf walk high more (p ++ q) entry size (length (slots ++ x)) ≡ lutOf walk low points p entry size (length slots)
-  pub slots-stay : leftIn walk high more (p ++ q) entry size (slots ++ x) ≡ leftIn walk low points p entry size slots ++ x
+  pub slots-stay : leftOf walk high more (p ++ q) entry size (slots ++ x) ≡ leftOf walk low points p entry size slots ++ x
 
 module _ (walk : Walk) (low high : ℕ) (l : low ≤ high) (points more : ℕ) (m : points ≤ more) (p q : List ℕ) (entry size : ℕ) (slots x : List ℕ) where
   abbrev t : List ℕ

@@ -7,11 +7,9 @@ use lib.ListN.{length, replicate}
 use Rattle.fields.specs.House.{houseEntries, housePoints}
 use Rattle.curve.specs.declared.Walk.{Walk}
 use Rattle.curve.specs.declared.Walk.the-variants.{Crate, Book}
-use Rattle.run.specs.Run.{recordWords, recordsOf}
-use Rattle.lut_meaning.specs.Answer.{State, abm, Answer, none, refuse, leftBy}
-use Rattle.lut_meaning.specs.Layout.{planOf}
-use Rattle.lut_meaning.specs.Lut.{lutOf, tagOf}
-use Rattle.lut_meaning.specs.Parts.{curvesOf}
+use Rattle.run.specs.Run.{recordWords}
+use Rattle.lut_meaning.specs.Answer.{State, abm, Answer, none, refuse}
+use Rattle.lut_meaning.specs.Lut.{lutOf, leftOf}
 
 -- walk, profile and size, the lent words, and the answer and the words as they are left
 pub data Case : Type 0 where
@@ -20,7 +18,7 @@ pub data Case : Type 0 where
 unfoldable pub Holds : Case → Type 0
 Holds (gives walk profile size slots a left) =
     (lutOf walk houseEntries housePoints profile 0 size (length slots) ≡ a)
-    × (leftBy (a .state) (recordsOf (curvesOf walk houseEntries (tagOf profile 0 size) (planOf (tagOf profile 0 size)))) slots ≡ left)
+    × (leftOf walk houseEntries housePoints profile 0 size slots ≡ left)
 
 unfoldable pub All : List Case → Type 0
 All [] = Unit

@@ -41,6 +41,12 @@ lutOf walk limit points profile entry size words =
     cond (ltb (countedSize size) 48) (refuse 2) (
     byType walk limit points (tagOf profile entry size) words))
 
+-- what such a call leaves of the lent slots
+abbrev pub leftOf : Walk → ℕ → ℕ → List ℕ → ℕ → ℕ → List ℕ → List ℕ
+leftOf walk limit points profile entry size slots =
+    let t = tagOf profile entry size in
+    leftBy (lutOf walk limit points profile entry size (length slots) .state) (recordsOf (curvesOf walk limit t (planOf t))) slots
+
 -- what a call answers, and what it leaves of the lent slots
 pub record Said (walk : Walk) (limit : ℕ) (t : List ℕ) (answer : Answer) (r : Lut) (before after : List ℕ) : Type 0 where
   pub answer-is : paper r ≡ answer

@@ -8,14 +8,9 @@ use lib.ListN.{length, take, drop}
 use Rattle.lines.specs.Text.{Wrote}
 use Rattle.curve.specs.declared.Walk.{Walk}
 use Rattle.curve.specs.declared.Walk.the-variants.{Crate, Book}
-use Rattle.run.specs.Run.{recordsOf}
-use Rattle.lut_meaning.specs.Answer.{State, Answer, leftBy}
-use Rattle.lut_meaning.specs.Layout.{planOf}
-use Rattle.lut_meaning.specs.Lut.{tagOf, lutOf}
-use Rattle.lut_meaning.specs.Parts.{curvesOf}
-use Rattle.text_meaning.specs.Answer.{leftBy as Text·leftBy}
-use Rattle.text_meaning.specs.Mluc.{recordsIn, wordsIn}
-use Rattle.text_meaning.specs.Text.{stringOf, tagOf as Text·tagOf}
+use Rattle.lut_meaning.specs.Answer.{State, Answer}
+use Rattle.lut_meaning.specs.Lut.{tagOf, lutOf, leftOf}
+use Rattle.text_meaning.specs.Text.{stringOf, leftOf as Text·leftOf}
 use Rattle.table.specs.Answer.{Told}
 use Rattle.table.specs.View.{tableBy, numbersOf, entryOf}
 use Rattle.jobs.specs.Stream.{tailOf}
@@ -71,7 +66,7 @@ module _ (job : StreamJob) (profile words : List ℕ) where
   lutAnswer walk = lutOf walk (job .entries) (job .points) profile (job .offset) (job .size) (length words)
 
   abbrev pub lutLeft : Walk → List ℕ
-  lutLeft walk = leftBy (lutAnswer walk .state) (recordsOf (curvesOf walk (job .entries) (lutTag job profile) (planOf (lutTag job profile)))) words
+  lutLeft walk = leftOf walk (job .entries) (job .points) profile (job .offset) (job .size) words
 
   abbrev pub lutReply : Walk → Reply
   lutReply walk = lent (lutText (lutAnswer walk)) (lutLeft walk)
@@ -79,8 +74,7 @@ module _ (job : StreamJob) (profile words : List ℕ) where
   -- text
   abbrev pub stringReply : Reply
   stringReply =
-      let a = stringOf profile (job .offset) (job .size) (length words) in
-      lent (stringText a) (Text·leftBy a (wordsIn (recordsIn (Text·tagOf profile (job .offset) (job .size)) .records)) words)
+      lent (stringText (stringOf profile (job .offset) (job .size) (length words))) (Text·leftOf profile (job .offset) (job .size) words)
 
   -- one entry of a table that is read on the crate walk
   abbrev pub viewReply : List ℕ → StreamIndex → Reply

@@ -68,6 +68,11 @@ stringOf profile entry size words =
     cond (ltb (countedSize size) 8) absent (
     byType (tagOf profile entry size) words)))
 
+-- what such a call leaves of the lent slots
+abbrev pub leftOf : List ℕ → ℕ → ℕ → List ℕ → List ℕ
+leftOf profile entry size slots =
+    leftBy (stringOf profile entry size (length slots)) (wordsIn (recordsIn (tagOf profile entry size) .records)) slots
+
 -- what a call answers, and what it leaves of the lent slots
 pub record Said (t : List ℕ) (answer : Answer) (r : TextAnswer) (before after : List ℕ) : Type 0 where
   pub answer-is : paper r ≡ answer
