@@ -3,7 +3,6 @@
 // a value stand in front of `out`, in the order that the comment over the function gives; the rest of it stays, and all of it on any other
 // status. Signed numbers are 32-bit words in two's complement, and a word of `out` has 64 bits.
 mod curves;
-mod put;
 mod smalls;
 mod tables;
 mod texts;
@@ -19,3 +18,6 @@ pub use smalls::khalyksor_read_xyz_tag;
 pub use tables::khalyksor_entry_at;
 pub use tables::khalyksor_read_lut_tag;
 pub use texts::khalyksor_read_string_tag;
+
+// The status of an `out` that is too short.
+const NO_ROOM: u32 = 102;

@@ -1,10 +1,11 @@
--- Stores one behind the other: two rows of them make one, a part that is written goes back in its place, and a loop that fills a list.
+-- Stores one behind the other: two rows of them make one, those past the end change nothing, a part that is written goes back in its place,
+-- and a loop that fills a list.
 -- Assumes nothing.
-use Prim.Native.Nat.{ℕ, suc, _+_, _-_, _≤_, _<_}
+use Prim.Native.Nat.{ℕ, zero, suc, _+_, _-_, _≤_, _<_}
 use native.Mathlib.Omega.{arith}
 use native.Mathlib.Nat.{zero-add, add-zero, add-suc, suc-add}
 use native.Mathlib.Numerals.{add-one}
-use mathlib.Core.Path.{_≡_, sym, _∙_}
+use mathlib.Core.Path.{_≡_, refl, sym, ap, _∙_}
 use mathlib.Core.List.{List, [], _∷_, _++_, append-nil, append-assoc}
 use lib.ListN.{length, getD, take, drop, set, length-drop, drop-of-length-le}
 use lib.Seq.{sets, sets-eq, drop-cons, take-all, drop-drop}
@@ -13,6 +14,16 @@ use borrow.Rule.Slice.PartMut.{putMid}
 pub sets-append : (xs ys l : List ℕ) (i : ℕ) → sets l i (xs ++ ys) ≡ sets (sets l i xs) (i + length xs) ys
 sets-append [] ys l i = rw add-zero
 sets-append (x ∷ xs) ys l i = rw (add-suc, ← suc-add) (sets-append xs ys (set l i x) (suc i))
+
+-- a store past the end changes nothing
+set-past : (l : List ℕ) (i a : ℕ) → length l ≤ i → set l i a ≡ l
+set-past [] i a h = refl
+set-past (x ∷ l) zero a h = absurd (omega arith)
+set-past (x ∷ l) (suc i) a h = ap (λ (k : List ℕ). x ∷ k) (set-past l i a (omega arith))
+
+pub sets-past : (vs l : List ℕ) (i : ℕ) → length l ≤ i → sets l i vs ≡ l
+sets-past [] l i h = refl
+sets-past (a ∷ vs) l i h = rw (set-past l i a h) (sets-past vs l (suc i) (omega arith))
 
 -- what is written from the first on
 pub front : (s vs : List ℕ) (n : ℕ) → length vs ≡ n → n ≤ length s → vs ++ drop n s ≡ sets s 0 vs

@@ -12,19 +12,8 @@ use lib.Dec.{leb}
 use lib.ListN.{length, getD, drop, set, length-append, length-set, drop-of-length-le}
 use lib.Seq.{sets, length-sets, drop-cons}
 use borrow.Author.Tests.{leb-true, leb-false}
-use Rattle.fields.proofs.Stores.{sets-append}
+use Rattle.fields.proofs.Stores.{sets-append, sets-past}
 use Rattle.lines.specs.Text.{Wrote}
-
--- ---- stores past the end
-
-set-past : (l : List ℕ) (i a : ℕ) → length l ≤ i → set l i a ≡ l
-set-past [] i a h = refl
-set-past (x ∷ l) zero a h = absurd (omega arith)
-set-past (x ∷ l) (suc i) a h = ap (λ (k : List ℕ). x ∷ k) (set-past l i a (omega arith))
-
-sets-past : (vs l : List ℕ) (i : ℕ) → length l ≤ i → sets l i vs ≡ l
-sets-past [] l i h = refl
-sets-past (a ∷ vs) l i h = rw (set-past l i a h) (sets-past vs l (suc i) (omega arith))
 
 -- ---- one piece behind the other
 
