@@ -27,7 +27,7 @@ fn put_curve(out: &mut [u64], c: CurveRecord, consumed: u64)
     told::put_numbers(out, 10, &last);
 }
 
-// Eleven words: kind, start, count, the seven parameters g a b c d e f, and the consumed size.
+// The ten words of the record, and the consumed size.
 pub fn tell_curve(got: CurveAnswer, out: &mut [u64]) -> u32
     ensures { λ r. ⌜ Gave (curveTold (paper got)) r (now (out .entry)) (now (out .exit)) ⌝ }
 {

@@ -108,10 +108,7 @@ fn put_abm(out: &mut [u64], t: AbmTable, grid: &[u8], matrix: &[u32], bias: &[u3
     put_abm_parts(out, t);
 }
 
-// The type's signature, and then: `mft1`, `mft2` input and output channels, grid points, input and output entries, nine matrix numbers, start
-// and length of the input table, the colour table and the output table (21 words); `mAB `, `mBA ` input and output channels, sixteen grid
-// bytes, nine matrix and three bias numbers, start and length of the colour table's data, the bytes of an entry, the curves of the runs A, M and
-// B (37 words).
+// A lookup table: of `mft1` and `mft2` 21 words, of `mAB ` and `mBA ` 37, in the order of specs/Layout.antt.
 pub fn tell_lut(got: Lut, out: &mut [u64]) -> u32
     ensures { λ r. ⌜ Gave (lutTold (paper got)) r (now (out .entry)) (now (out .exit)) ⌝ }
 {
@@ -133,7 +130,7 @@ pub fn tell_lut(got: Lut, out: &mut [u64]) -> u32
     }
 }
 
-// One word: the entry.
+// An entry of a colour table: one word.
 pub fn tell_entry(got: EntryAnswer, out: &mut [u64]) -> u32
     ensures { λ r. ⌜ Gave (entryTold (Entry·paper got)) r (now (out .entry)) (now (out .exit)) ⌝ }
 {

@@ -13,7 +13,7 @@ ghost use Rattle.small_meaning.specs.Answer.{paperChad, paperSig, paperDate, pa
 ghost use Rattle.told.specs.Told.{Gave};
 ghost use Rattle.small_told.specs.Layout.{smallTold};
 
-// Nine words: the matrix, row by row.
+// `chad`: the matrix, row by row.
 pub fn tell_chad(got: ChadAnswer, out: &mut [u64]) -> u32
     ensures { λ r. ⌜ Gave (smallTold (paperChad got)) r (now (out .entry)) (now (out .exit)) ⌝ }
 {
@@ -38,7 +38,7 @@ pub fn tell_chad(got: ChadAnswer, out: &mut [u64]) -> u32
     }
 }
 
-// One word: the signature.
+// `sig `: the signature.
 pub fn tell_sig(got: SigAnswer, out: &mut [u64]) -> u32
     ensures { λ r. ⌜ Gave (smallTold (paperSig got)) r (now (out .entry)) (now (out .exit)) ⌝ }
 {
@@ -53,7 +53,7 @@ pub fn tell_sig(got: SigAnswer, out: &mut [u64]) -> u32
     }
 }
 
-// Twelve words: the bytes 8 to 19 of the profile.
+// `dtim`: the twelve bytes.
 pub fn tell_date(got: DateAnswer, out: &mut [u64]) -> u32
     ensures { λ r. ⌜ Gave (smallTold (paperDate got)) r (now (out .entry)) (now (out .exit)) ⌝ }
 {
@@ -81,7 +81,7 @@ pub fn tell_date(got: DateAnswer, out: &mut [u64]) -> u32
     }
 }
 
-// Seven words: observer, backing X Y Z, geometry, flare, illuminant.
+// `meas`: observer, backing, geometry, flare, illuminant.
 pub fn tell_meas(got: MeasAnswer, out: &mut [u64]) -> u32
     ensures { λ r. ⌜ Gave (smallTold (paperMeas got)) r (now (out .entry)) (now (out .exit)) ⌝ }
 {
@@ -97,7 +97,7 @@ pub fn tell_meas(got: MeasAnswer, out: &mut [u64]) -> u32
     }
 }
 
-// Seven words: illuminant X Y Z, surround X Y Z, the number at byte 32.
+// `view`: illuminant, surround, the number.
 pub fn tell_view(got: ViewAnswer, out: &mut [u64]) -> u32
     ensures { λ r. ⌜ Gave (smallTold (paperView got)) r (now (out .entry)) (now (out .exit)) ⌝ }
 {
@@ -114,7 +114,7 @@ pub fn tell_view(got: ViewAnswer, out: &mut [u64]) -> u32
     }
 }
 
-// Three words: X Y Z. On the default, which stands for three zeros, `out` stays.
+// `XYZ `: X, Y and Z. On the default, which stands for three zeros, `out` stays.
 pub fn tell_xyz(got: XyzAnswer, out: &mut [u64]) -> u32
     ensures { λ r. ⌜ Gave (smallTold (paperXyz got)) r (now (out .entry)) (now (out .exit)) ⌝ }
 {
@@ -129,7 +129,7 @@ pub fn tell_xyz(got: XyzAnswer, out: &mut [u64]) -> u32
     }
 }
 
-// Four words: primaries, transfer, matrix, the flag of the full range.
+// `cicp`: primaries, transfer, matrix, the flag of the full range.
 pub fn tell_cicp(got: CicpAnswer, out: &mut [u64]) -> u32
     ensures { λ r. ⌜ Gave (smallTold (paperCicp got)) r (now (out .entry)) (now (out .exit)) ⌝ }
 {

@@ -40,8 +40,7 @@ fn put_desc(out: &mut [u64], d: Description)
     told::put_numbers(out, 0, &words);
 }
 
-// The type's signature, and then: `text` start and length; `desc` the ASCII string's start and length, the language, the Unicode string's start
-// and length; `mluc` the number of records.
+// Of `text` 3 words, of `desc` 6, of `mluc` 2, in the order of specs/Layout.antt.
 pub fn tell_text(got: TextAnswer, out: &mut [u64]) -> u32
     ensures { λ r. ⌜ Gave (textTold (paper got)) r (now (out .entry)) (now (out .exit)) ⌝ }
 {
