@@ -4,7 +4,6 @@
 use Prim.Native.Nat.{ℕ, _+_, _≤_, _<_}
 use native.Mathlib.Nat.{zero-add}
 use native.Mathlib.Numerals.{add-one}
-use native.Mathlib.Omega.{arith}
 use mathlib.Core.Path.{_≡_, refl, sym, _∙_}
 use mathlib.Core.List.{List, _++_}
 use lib.ListN.{length, getD, drop, set, length-append, length-set, drop-of-length-le}
@@ -13,19 +12,17 @@ use Rattle.fields.proofs.Stores.{sets-append, sets-past}
 
 -- i of the words are stored
 pub record Putting (l : List ℕ) (at : ℕ) (ws l' : List ℕ) (end i : ℕ) : Type 0 where
-  pub stored : i ≤ length ws
   pub same : length l' ≡ length l
   pub left : sets l' end (drop i ws) ≡ sets l at ws
 
 module _ (l : List ℕ) (at : ℕ) (ws : List ℕ) where
   pub begins : Putting l at ws l at 0
-  begins = record { stored = omega arith; same = refl; left = refl }
+  begins = record { same = refl; left = refl }
 
   module _ (l' : List ℕ) (end i : ℕ) (p : Putting l at ws l' end i) where
     pub turns : (w : ℕ) → i < length ws → w ≡ getD ws i 0 → Putting l at ws (set l' end w) (end + 1) (i + 1)
     turns w h e =
         record {
-          stored = omega arith;
           same = length-set l' end w ∙ p .same;
           left = rw e (simp add-one (rw (drop-cons ws i 0 h) at (p .left)));
         }
