@@ -1,2 +1,1 @@
-pub mod CurveLine
 pub mod Stream

@@ -11,7 +11,7 @@ use Rattle.curve.specs.declared.Walk.{Walk}
 use Rattle.curve.specs.declared.Walk.the-variants.{Crate, Book}
 use Rattle.small_meaning.specs.Answer.{Answer as Small·Answer}
 use Rattle.small_meaning.specs.Small.{chadOf, sigOf, dateOf, measOf, viewOf, xyzOf, cicpOf}
-use Rattle.jobs.specs.CurveLine.{recordText}
+use Rattle.curve_text.specs.CurveLine.{recordText}
 use Rattle.jobs.specs.declared.StreamJob.{StreamJob}
 use Rattle.plain_replies.specs.Words.{valueWord, absentWord, defaultWord, refusedText}
 

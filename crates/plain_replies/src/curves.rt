@@ -14,7 +14,7 @@ pub(crate) fn answer(profile: &[u8], job: StreamJob, walk: Walk, line: &mut [u8]
     match got {
         CurveAnswer::Value { curve, consumed } => {
             let word = lines::put(line, 0, b"value");
-            let record = jobs::put_record(line, word, b' ', curve);
+            let record = curve_text::put_record(line, word, b' ', curve);
             lines::put_number(line, record, b' ', consumed)
         }
         CurveAnswer::Absent => lines::put(line, 0, b"absent"),

@@ -16,7 +16,7 @@ use Rattle.curve.specs.Answer.{Answer, value, absent, refused, paper}
 use Rattle.curve.specs.Curve.{trcOf}
 use Rattle.curve.specs.declared.Walk.the-variants.{Crate}
 use Rattle.lines.specs.Text.{number, numerals}
-use Rattle.jobs.specs.declared.CurveLine.{CurveLine}
+use Rattle.curve_text.specs.declared.CurveLine.{CurveLine}
 
 -- what a job comes to: the reader's answer, or no job
 pub data Line : Type 0 where

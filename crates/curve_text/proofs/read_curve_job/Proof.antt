@@ -1,9 +1,9 @@
--- `jobs::read_curve_job` meets its contract: each way out is a law of `lineOf`.
+-- `curve_text::read_curve_job` meets its contract: each way out is a law of `lineOf`.
 -- Assumes nothing.
-use Rattle.jobs.proofs.Laws.{line-laws, line-answer}
+use Rattle.curve_text.proofs.Laws.{line-laws, line-answer}
 use borrow.Author.Needs.{needs}
-use Rattle.jobs.proofs.read_curve_job.Statement.{statement}
-use Rattle.jobs.proofs.read_curve_job.Tie as tie
+use Rattle.curve_text.proofs.read_curve_job.Statement.{statement}
+use Rattle.curve_text.proofs.read_curve_job.Tie as tie
 
 pub read-curve-job-spec : {M : Type 1} → statement M
 read-curve-job-spec =

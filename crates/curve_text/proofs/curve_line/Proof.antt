@@ -1,10 +1,10 @@
--- `jobs::curve_line` meets its contract: the text is that of the answer, or of a bad job.
+-- `curve_text::curve_line` meets its contract: the text is that of the answer, or of a bad job.
 -- Assumes nothing.
-use Rattle.jobs.proofs.Laws.{text-answer, text-bad}
-use Rattle.jobs.specs.CurveLine.{textOf}
+use Rattle.curve_text.proofs.Laws.{text-answer, text-bad}
+use Rattle.curve_text.specs.CurveLine.{textOf}
 use borrow.Author.Needs.{needs}
-use Rattle.jobs.proofs.curve_line.Statement.{statement}
-use Rattle.jobs.proofs.curve_line.Tie as tie
+use Rattle.curve_text.proofs.curve_line.Statement.{statement}
+use Rattle.curve_text.proofs.curve_line.Tie as tie
 
 pub curve-line-spec : {M : Type 1} → statement M
 unfolding textOf

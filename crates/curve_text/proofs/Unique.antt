@@ -3,8 +3,8 @@
 use mathlib.Core.Path.{_≡_, refl, ap}
 use Rattle.curve.specs.Answer.{paper}
 use Rattle.curve.proofs.Unique.{unique as curve-unique}
-use Rattle.jobs.specs.CurveLine.{Line, lineFrom}
-use Rattle.jobs.specs.declared.CurveLine.{CurveLine}
+use Rattle.curve_text.specs.CurveLine.{Line, lineFrom}
+use Rattle.curve_text.specs.declared.CurveLine.{CurveLine}
 use native.Mathlib.Omega.{arith}
 use Prim.Native.Nat.{ℕ}
 

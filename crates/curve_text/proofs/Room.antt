@@ -14,7 +14,7 @@ use Rattle.curve.specs.Shape.{Shape, empty, table, para, wordsOf}
 use Rattle.curve.specs.declared.Walk.the-variants.{Crate}
 use Rattle.curve.proofs.Inside.{accepted-inside}
 use Rattle.lines.proofs.Size.{number-size, numerals-size}
-use Rattle.jobs.specs.CurveLine.{Line, answered, badJob, lineOf, recordText, textOf}
+use Rattle.curve_text.specs.CurveLine.{Line, answered, badJob, lineOf, recordText, textOf}
 
 seven : (start : ℕ) (s : Shape) → length (drop 3 (wordsOf start s)) ≡ 7
 unfolding wordsOf

@@ -1,10 +1,10 @@
--- `jobs::put_answer` meets its contract: each arm writes the text of its answer piece by piece.
+-- `curve_text::put_answer` meets its contract: each arm writes the text of its answer piece by piece.
 -- Assumes nothing.
-use Rattle.jobs.proofs.Laws.{text-value, text-absent, text-refused}
-use Rattle.jobs.specs.CurveLine.{textOf}
+use Rattle.curve_text.proofs.Laws.{text-value, text-absent, text-refused}
+use Rattle.curve_text.specs.CurveLine.{textOf}
 use borrow.Author.Needs.{needs}
-use Rattle.jobs.proofs.put_answer.Statement.{statement}
-use Rattle.jobs.proofs.put_answer.Tie as tie
+use Rattle.curve_text.proofs.put_answer.Statement.{statement}
+use Rattle.curve_text.proofs.put_answer.Tie as tie
 
 pub put-answer-spec : {M : Type 1} → statement M
 unfolding textOf

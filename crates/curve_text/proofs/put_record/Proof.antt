@@ -1,9 +1,9 @@
--- `jobs::put_record` meets its contract: its numbers are written one behind the other.
+-- `curve_text::put_record` meets its contract: its numbers are written one behind the other.
 -- Assumes nothing.
-use Rattle.jobs.proofs.Laws.{record-wrote}
+use Rattle.curve_text.proofs.Laws.{record-wrote}
 use borrow.Author.Needs.{needs}
-use Rattle.jobs.proofs.put_record.Statement.{statement}
-use Rattle.jobs.proofs.put_record.Tie as tie
+use Rattle.curve_text.proofs.put_record.Statement.{statement}
+use Rattle.curve_text.proofs.put_record.Tie as tie
 
 pub put-record-spec : {M : Type 1} → statement M
 put-record-spec =
