@@ -1,17 +1,15 @@
 -- The meanings case by case, as the code meets them.
 -- Assumes nothing.
 use Prim.Native.Nat.{ℕ, _≤_, _<_}
-use native.Mathlib.Omega.{arith}
-use mathlib.Core.Path.{_≡_, ap}
+use mathlib.Core.Path.{_≡_}
 use mathlib.Core.List.{List}
 use lib.ListN.{length, getD}
 use borrow.Author.Tests.{lt-ltb, le-ltb}
 use Rattle.fields.specs.Bytes.{u32At}
-use Rattle.jobs.specs.Stream.{jobOf, headOf, tailOf}
+use Rattle.jobs.specs.Stream.{u64At, headOf, tailOf}
 use Rattle.jobs.specs.declared.StreamHead.{StreamHead}
 use Rattle.jobs.specs.declared.StreamIndex.{StreamIndex}
 use Rattle.jobs.specs.declared.StreamTail.{StreamTail}
-use Rattle.jobs.specs.declared.StreamJob.{StreamJob}
 
 -- ---- the head of a job of `answers`
 
@@ -30,14 +28,11 @@ module _ (h : List ℕ) where
       unfolding headOf
       head-length m = simp (le-ltb _ _ s, ← w, le-ltb _ _ l, ← z, lt-ltb _ _ m)
 
-      pub head-job : (j : StreamJob) → size ≤ 1048576 → j ≡ jobOf h → StreamHead.Job j ≡ headOf h
+      pub head-job : (reader offset tag entries points : ℕ) → size ≤ 1048576 → reader ≡ getD h 0 0 → offset ≡ u32At h 1 → tag ≡ u32At h 5 → entries ≡ u64At h 9 → points ≡ u64At h 17 → StreamHead.Job record { reader = reader; offset = offset; size = tag; entries = entries; points = points; words = words; length = size } ≡ headOf h
       unfolding headOf
-      head-job j m e =
-          let wide : u32At h 25 ≤ 8192 = omega (arith, w) in
-          let long : u32At h 29 ≤ 1048576 = omega (arith, z) in
-          rw (le-ltb _ _ s, le-ltb _ _ wide, le-ltb _ _ long) (ap StreamHead.Job e)
+      head-job reader offset tag entries points m e₁ e₂ e₃ e₄ e₅ = simp (le-ltb _ _ s, ← w, le-ltb _ _ l, ← z, le-ltb _ _ m, e₁, e₂, e₃, e₄, e₅)
 
-pub ruleset head-laws = (head-short, head-words, head-length)
+pub ruleset head-laws = (head-short, head-words, head-length, head-job)
 
 -- ---- and what stands behind its profile
 
