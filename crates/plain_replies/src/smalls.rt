@@ -4,10 +4,10 @@ use jobs::StreamJob;
 use small::ChadAnswer;
 use small::CicpAnswer;
 use small::DateAnswer;
-use small::MeasAnswer;
 use small::SigAnswer;
-use small::ViewAnswer;
-use small::XyzAnswer;
+use small_xyz::MeasAnswer;
+use small_xyz::ViewAnswer;
+use small_xyz::XyzAnswer;
 ghost use Rattle.small_meaning.specs.Small.{chadOf, sigOf, dateOf, measOf, viewOf, xyzOf, cicpOf};
 ghost use Rattle.lines.specs.Text.{Wrote, numerals, numbers};
 ghost use Rattle.plain_replies.specs.Plain.{smallText, measured, viewed};
@@ -83,7 +83,7 @@ pub(crate) fn dtim(profile: &[u8], job: StreamJob, line: &mut [u8]) -> usize
 pub(crate) fn meas(profile: &[u8], job: StreamJob, line: &mut [u8]) -> usize
     ensures { λ r. ⌜ Wrote (now (line .entry)) (now (line .exit)) 0 r (smallText measured (measOf (now (profile .entry)) (job .offset) (job .size))) ⌝ }
 {
-    let got = small::read_meas_tag(profile, Entry(job.offset), job.size);
+    let got = small_xyz::read_meas_tag(profile, Entry(job.offset), job.size);
     match got {
         MeasAnswer::Value(m) => {
             let b = m.backing;
@@ -103,7 +103,7 @@ pub(crate) fn meas(profile: &[u8], job: StreamJob, line: &mut [u8]) -> usize
 pub(crate) fn view(profile: &[u8], job: StreamJob, line: &mut [u8]) -> usize
     ensures { λ r. ⌜ Wrote (now (line .entry)) (now (line .exit)) 0 r (smallText viewed (viewOf (now (profile .entry)) (job .offset) (job .size))) ⌝ }
 {
-    let got = small::read_viewing_conditions(profile, Entry(job.offset), job.size);
+    let got = small_xyz::read_viewing_conditions(profile, Entry(job.offset), job.size);
     match got {
         ViewAnswer::Value(v) => {
             let i = v.illuminant;
@@ -122,7 +122,7 @@ pub(crate) fn view(profile: &[u8], job: StreamJob, line: &mut [u8]) -> usize
 pub(crate) fn xyz(profile: &[u8], job: StreamJob, line: &mut [u8]) -> usize
     ensures { λ r. ⌜ Wrote (now (line .entry)) (now (line .exit)) 0 r (smallText numerals (xyzOf (now (profile .entry)) (job .offset) (job .size))) ⌝ }
 {
-    let got = small::read_xyz_tag(profile, Entry(job.offset), job.size);
+    let got = small_xyz::read_xyz_tag(profile, Entry(job.offset), job.size);
     match got {
         XyzAnswer::Value(n) => {
             let three = [n.x, n.y, n.z];

@@ -1,9 +1,8 @@
 -- The layouts and the meanings case by case, as the code meets them: each law takes what the tests and the calls on the way told. What
 -- stands behind the shared order is in Order.antt of `small_meaning`.
 -- Assumes nothing.
-use Prim.Native.Nat.{ℕ, _+_, _-_, _/_, _≤_, _<_}
-use native.Mathlib.Omega.{arith}
-use mathlib.Core.Path.{_≡_, ap}
+use Prim.Native.Nat.{ℕ, _-_, _/_, _≤_, _<_}
+use mathlib.Core.Path.{_≡_}
 use mathlib.Core.List.{List, [], _∷_}
 use lib.ListN.{length, getD, take, drop}
 use borrow.Author.Tests.{eq-eqb, ne-eqb, lt-ltb, le-ltb}
@@ -15,8 +14,8 @@ use Rattle.fields.specs.declared.Place.{Place}
 use Rattle.fields.specs.declared.Place.the-variants.{In, Past}
 use Rattle.fields.proofs.Located.{inside, past, part-is}
 use Rattle.small_meaning.specs.Answer.{Answer, value, absent, refused}
-use Rattle.small_meaning.specs.Layout.{nineNumbers, signatureIn, dateBytes, measurement, conditions, firstXyz, codePoints}
-use Rattle.small_meaning.specs.Small.{matrixOf, chadOf, windowOf, tripleOf}
+use Rattle.small_meaning.specs.Layout.{nineNumbers, signatureIn, dateBytes, codePoints}
+use Rattle.small_meaning.specs.Small.{matrixOf, chadOf}
 
 -- ---- the fields of each type
 
@@ -32,18 +31,6 @@ module _ (t : List ℕ) where
   pub twelve-are : (a b c d e f g h i j k l : ℕ) → a ≡ getD t 8 0 → b ≡ getD t 9 0 → c ≡ getD t 10 0 → d ≡ getD t 11 0 → e ≡ getD t 12 0 → f ≡ getD t 13 0 → g ≡ getD t 14 0 → h ≡ getD t 15 0 → i ≡ getD t 16 0 → j ≡ getD t 17 0 → k ≡ getD t 18 0 → l ≡ getD t 19 0 → a ∷ b ∷ c ∷ d ∷ e ∷ f ∷ g ∷ h ∷ i ∷ j ∷ k ∷ l ∷ [] ≡ dateBytes t
   unfolding dateBytes bytesAt
   twelve-are a b c d e f g h i j k l e₁ e₂ e₃ e₄ e₅ e₆ e₇ e₈ e₉ e₁₀ e₁₁ e₁₂ = simp (e₁, e₂, e₃, e₄, e₅, e₆, e₇, e₈, e₉, e₁₀, e₁₁, e₁₂)
-
-  pub triple-is : (at x y z : ℕ) → x ≡ u32At t at → y ≡ u32At t (at + 4) → z ≡ u32At t (at + 8) → x ∷ y ∷ z ∷ [] ≡ wordsAt t at 3
-  unfolding wordsAt
-  triple-is at x y z e₁ e₂ e₃ = let e : (at + 4) + 4 ≡ at + 8 = omega arith in simp (e₁, e₂, e₃, e)
-
-  pub measurement-is : (a b c d e f g : ℕ) → a ≡ u32At t 8 → b ≡ u32At t 12 → c ≡ u32At t 16 → d ≡ u32At t 20 → e ≡ u32At t 24 → f ≡ u32At t 28 → g ≡ u32At t 32 → a ∷ b ∷ c ∷ d ∷ e ∷ f ∷ g ∷ [] ≡ measurement t
-  unfolding measurement wordsAt
-  measurement-is a b c d e f g e₁ e₂ e₃ e₄ e₅ e₆ e₇ = simp (e₁, e₂, e₃, e₄, e₅, e₆, e₇)
-
-  pub conditions-are : (a b c d e f g : ℕ) → a ≡ u32At t 8 → b ≡ u32At t 12 → c ≡ u32At t 16 → d ≡ u32At t 20 → e ≡ u32At t 24 → f ≡ u32At t 28 → g ≡ u32At t 32 → a ∷ b ∷ c ∷ d ∷ e ∷ f ∷ g ∷ [] ≡ conditions t
-  unfolding conditions wordsAt
-  conditions-are a b c d e f g e₁ e₂ e₃ e₄ e₅ e₆ e₇ = simp (e₁, e₂, e₃, e₄, e₅, e₆, e₇)
 
   pub four-are : (a b c d : ℕ) → a ≡ getD t 8 0 → b ≡ getD t 9 0 → c ≡ getD t 10 0 → d ≡ getD t 11 0 → a ∷ b ∷ c ∷ d ∷ [] ≡ codePoints t
   unfolding codePoints bytesAt
@@ -89,30 +76,6 @@ module _ (p : List ℕ) (entry size : ℕ) (place : Place) (h : place ≡ placeO
       chad-tag r l n w =
           let i = inside _ _ _ h e in
           simp (le-ltb _ _ (i .fits), le-ltb _ _ (inside _ _ _ g f .fits), le-ltb _ _ l, eq-eqb _ _ n) (simp (i .from-is, i .to-is, part-is p entry size) at w)
-
--- ---- `meas`
-
-module _ (p : List ℕ) (entry : ℕ) (place : Place) (h : place ≡ placeOf (length p) entry 36) where
-  pub window-past : place ≡ Past → refused 1 ≡ windowOf p entry
-  unfolding windowOf
-  window-past e = simp (lt-ltb _ _ (past _ _ _ h e))
-
-  pub window-value : (ws : List ℕ) (from to : ℕ) → place ≡ In from to → ws ≡ measurement (take (to - from) (drop from p)) → value ws ≡ windowOf p entry
-  unfolding windowOf
-  window-value ws from to e w =
-      let i = inside _ _ _ h e in
-      simp (le-ltb _ _ (i .fits)) (ap value (simp (i .from-is, i .to-is, part-is p entry 36) at w))
-
--- ---- `XYZ `
-
-module _ (t : List ℕ) where
-  pub triple-short : length t < 20 → refused 2 ≡ tripleOf t
-  unfolding tripleOf
-  triple-short l = simp (lt-ltb _ _ l)
-
-  pub triple-value : (ws : List ℕ) → 20 ≤ length t → ws ≡ wordsAt t 8 3 → value ws ≡ tripleOf t
-  unfolding tripleOf firstXyz
-  triple-value ws l w = simp (le-ltb _ _ l, w)
 
 pub ruleset matrix-laws = (matrix-other, matrix-size, matrix-value)
 

@@ -1,5 +1,4 @@
 // `cicp`: read_cicp_tag of moxcms.
-use crate::window;
 use fields::Entry;
 use fields::InTag;
 use fields::Kind;
@@ -35,7 +34,7 @@ fn codes_at(tag: &[u8]) -> CicpCodes
 pub fn read_cicp_tag(profile: &[u8], entry: Entry, size: u32) -> CicpAnswer
     ensures { λ r. ⌜ paperCicp r ≡ cicpOf (now (profile .entry)) (entry .0) size ⌝ }
 {
-    let found = window::find(profile, entry, size, TAG_SIZE, size, Kind::CICP);
+    let found = small_order::find(profile, entry, size, TAG_SIZE, size, Kind::CICP);
     match found {
         Found::Short => CicpAnswer::Absent,
         Found::Past => CicpAnswer::Refused(Refusal::PastProfile),

@@ -1,5 +1,4 @@
 // `dtim`: read_date_time_tag of moxcms.
-use crate::window;
 use fields::Entry;
 use fields::InTag;
 use fields::Kind;
@@ -35,7 +34,7 @@ fn bytes_at(tag: &[u8]) -> DateBytes
 pub fn read_date_time_tag(profile: &[u8], entry: Entry, size: u32) -> DateAnswer
     ensures { λ r. ⌜ paperDate r ≡ dateOf (now (profile .entry)) (entry .0) size ⌝ }
 {
-    let found = window::find(profile, entry, size, 20, size, Kind::DTIM);
+    let found = small_order::find(profile, entry, size, 20, size, Kind::DTIM);
     match found {
         Found::Short => DateAnswer::Absent,
         Found::Past => DateAnswer::Refused(Refusal::PastProfile),

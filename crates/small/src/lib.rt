@@ -1,18 +1,14 @@
-// The small readers of moxcms, a module each: `chad`, `sig `, `dtim`, `meas`, `view`, `XYZ ` and `cicp`. A size of 0 is an ordinary size.
+// Small readers of moxcms, a module each: `chad`, `sig `, `dtim` and `cicp`; those with XYZ numbers are in `small_xyz`. A size of 0 is an
+// ordinary size.
 mod chad;
 mod cicp;
 mod dtim;
-mod meas;
 mod sig;
-mod view;
-mod window;
-mod xyz;
 
 pub use chad::read_chad_tag;
 pub use cicp::full_range;
 pub use cicp::read_cicp_tag;
 pub use dtim::read_date_time_tag;
-pub use meas::read_meas_tag;
 pub use sig::read_tech_tag;
 pub use small_meaning::ChadAnswer;
 pub use small_meaning::ChadMatrix;
@@ -20,12 +16,4 @@ pub use small_meaning::CicpAnswer;
 pub use small_meaning::CicpCodes;
 pub use small_meaning::DateAnswer;
 pub use small_meaning::DateBytes;
-pub use small_meaning::MeasAnswer;
-pub use small_meaning::Measurement;
 pub use small_meaning::SigAnswer;
-pub use small_meaning::ViewAnswer;
-pub use small_meaning::ViewingConditions;
-pub use small_meaning::XyzAnswer;
-pub use small_meaning::XyzNumber;
-pub use view::read_viewing_conditions;
-pub use xyz::read_xyz_tag;

@@ -1,5 +1,4 @@
 // `sig `: read_tech_tag of moxcms.
-use crate::window;
 use fields::Entry;
 use fields::InTag;
 use fields::Kind;
@@ -15,7 +14,7 @@ ghost use Rattle.small_meaning.specs.Small.{sigOf};
 pub fn read_tech_tag(profile: &[u8], entry: Entry, size: u32) -> SigAnswer
     ensures { λ r. ⌜ paperSig r ≡ sigOf (now (profile .entry)) (entry .0) size ⌝ }
 {
-    let found = window::find(profile, entry, size, TAG_SIZE, size, Kind::SIG);
+    let found = small_order::find(profile, entry, size, TAG_SIZE, size, Kind::SIG);
     match found {
         Found::Short => SigAnswer::Refused(Refusal::TagTooShort),
         Found::Past => SigAnswer::Refused(Refusal::PastProfile),

@@ -1,4 +1,4 @@
-// The order of checks that all readers but `chad` share, and the bytes that it leads to.
+// The order of checks that all small readers but `chad` share, and the bytes that it leads to.
 use fields::Entry;
 use fields::InTag;
 use fields::Place;
@@ -8,14 +8,7 @@ ghost use Rattle.small_meaning.specs.Order.{foundOf};
 
 // The first `end` bytes of a tag of `size` bytes. A size under `least` is too short; then the bytes may lie past the profile; then the
 // type may be another than `signature`.
-pub(crate) fn find(
-    profile: &[u8],
-    entry: Entry,
-    size: u32,
-    least: u32,
-    end: u32,
-    signature: u32,
-) -> Found
+pub fn find(profile: &[u8], entry: Entry, size: u32, least: u32, end: u32, signature: u32) -> Found
     ensures { λ r. ⌜ r ≡ foundOf least end signature (now (profile .entry)) (entry .0) size ⌝ }
 {
     if size < least {

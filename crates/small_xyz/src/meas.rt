@@ -1,5 +1,4 @@
 // `meas`: read_meas_tag of moxcms.
-use crate::window;
 use fields::Entry;
 use fields::InTag;
 use fields::Kind;
@@ -51,7 +50,7 @@ fn read_bytes(profile: &[u8], entry: Entry) -> MeasAnswer
 pub fn read_meas_tag(profile: &[u8], entry: Entry, size: u32) -> MeasAnswer
     ensures { λ r. ⌜ paperMeas r ≡ measOf (now (profile .entry)) (entry .0) size ⌝ }
 {
-    let found = window::find(profile, entry, size, TAG_SIZE, size, Kind::MEAS);
+    let found = small_order::find(profile, entry, size, TAG_SIZE, size, Kind::MEAS);
     match found {
         Found::Short => MeasAnswer::Absent,
         Found::Past => MeasAnswer::Refused(Refusal::PastProfile),

@@ -1,5 +1,4 @@
 // `view`: read_viewing_conditions of moxcms.
-use crate::window;
 use fields::Entry;
 use fields::InTag;
 use fields::Kind;
@@ -38,7 +37,7 @@ fn conditions_at(bytes: &[u8]) -> ViewingConditions
 pub fn read_viewing_conditions(profile: &[u8], entry: Entry, size: u32) -> ViewAnswer
     ensures { λ r. ⌜ paperView r ≡ viewOf (now (profile .entry)) (entry .0) size ⌝ }
 {
-    let found = window::find(profile, entry, size, 36, 36, Kind::VIEW);
+    let found = small_order::find(profile, entry, size, 36, 36, Kind::VIEW);
     match found {
         Found::Short => ViewAnswer::Absent,
         Found::Past => ViewAnswer::Refused(Refusal::PastProfile),

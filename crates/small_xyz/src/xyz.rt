@@ -1,5 +1,4 @@
 // `XYZ `: read_xyz_tag of moxcms.
-use crate::window;
 use fields::Entry;
 use fields::InTag;
 use fields::Kind;
@@ -38,7 +37,7 @@ fn read_triple(tag: &[u8]) -> XyzAnswer
 pub fn read_xyz_tag(profile: &[u8], entry: Entry, size: u32) -> XyzAnswer
     ensures { λ r. ⌜ paperXyz r ≡ xyzOf (now (profile .entry)) (entry .0) size ⌝ }
 {
-    let found = window::find(profile, entry, size, TAG_SIZE, size, Kind::XYZ);
+    let found = small_order::find(profile, entry, size, TAG_SIZE, size, Kind::XYZ);
     match found {
         Found::Short => XyzAnswer::Default,
         Found::Past => XyzAnswer::Refused(Refusal::PastProfile),

@@ -1,10 +1,10 @@
--- `small::meas::read_bytes` meets its contract: each way out is a law of `windowOf`, and a part lies where `locate` found it.
+-- `small_xyz::meas::read_bytes` meets its contract: each way out is a law of `windowOf`, and a part lies where `locate` found it.
 -- Assumes nothing.
-use Rattle.small.proofs.Laws.{window-past, window-value}
+use Rattle.small_xyz.proofs.Laws.{window-past, window-value}
 use Rattle.fields.proofs.Located.{begins, starts, ends}
 use borrow.Author.Needs.{needs}
-use Rattle.small.proofs.meas.read_bytes.Statement.{statement}
-use Rattle.small.proofs.meas.read_bytes.Tie as tie
+use Rattle.small_xyz.proofs.meas.read_bytes.Statement.{statement}
+use Rattle.small_xyz.proofs.meas.read_bytes.Tie as tie
 
 pub read-bytes-spec : {M : Type 1} → statement M
 read-bytes-spec =

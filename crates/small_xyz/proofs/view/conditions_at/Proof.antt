@@ -1,9 +1,9 @@
--- `small::view::conditions_at` meets its contract: its numbers are those of the layout.
+-- `small_xyz::view::conditions_at` meets its contract: its numbers are those of the layout.
 -- Assumes nothing.
-use Rattle.small.proofs.Laws.{conditions-are}
+use Rattle.small_xyz.proofs.Laws.{conditions-are}
 use borrow.Author.Needs.{needs}
-use Rattle.small.proofs.view.conditions_at.Statement.{statement}
-use Rattle.small.proofs.view.conditions_at.Tie as tie
+use Rattle.small_xyz.proofs.view.conditions_at.Statement.{statement}
+use Rattle.small_xyz.proofs.view.conditions_at.Tie as tie
 
 pub conditions-at-spec : {M : Type 1} → statement M
 conditions-at-spec =

@@ -1,9 +1,9 @@
--- `small::xyz::read_triple` meets its contract: each way out is a law of `tripleOf`.
+-- `small_xyz::xyz::read_triple` meets its contract: each way out is a law of `tripleOf`.
 -- Assumes nothing.
-use Rattle.small.proofs.Laws.{triple-short, triple-value}
+use Rattle.small_xyz.proofs.Laws.{triple-short, triple-value}
 use borrow.Author.Needs.{needs}
-use Rattle.small.proofs.xyz.read_triple.Statement.{statement}
-use Rattle.small.proofs.xyz.read_triple.Tie as tie
+use Rattle.small_xyz.proofs.xyz.read_triple.Statement.{statement}
+use Rattle.small_xyz.proofs.xyz.read_triple.Tie as tie
 
 pub read-triple-spec : {M : Type 1} → statement M
 read-triple-spec =

@@ -1,11 +1,11 @@
--- `small::xyz::read_xyz_tag` meets its contract: each way out is a law of the order.
+-- `small_xyz::xyz::read_xyz_tag` meets its contract: each way out is a law of the order.
 -- Assumes nothing.
 use Rattle.fields.specs.Tag.{signatureOf}
 use Rattle.small_meaning.specs.Small.{tripleOf}
 use Rattle.small_meaning.proofs.Order.{answer-laws, answer-tag, starts, ends}
 use borrow.Author.Needs.{needs}
-use Rattle.small.proofs.xyz.read_xyz_tag.Statement.{statement}
-use Rattle.small.proofs.xyz.read_xyz_tag.Tie as tie
+use Rattle.small_xyz.proofs.xyz.read_xyz_tag.Statement.{statement}
+use Rattle.small_xyz.proofs.xyz.read_xyz_tag.Tie as tie
 
 pub read-xyz-tag-spec : {M : Type 1} → statement M
 unfolding signatureOf
