@@ -56,7 +56,7 @@ pub extern "C" fn khalyksor_read_date_time_tag(
     small_told::tell_date(got, out)
 }
 
-// small::read_meas_tag. Seven words: observer, backing X Y Z, geometry, flare, illuminant.
+// small_xyz::read_meas_tag. Seven words: observer, backing X Y Z, geometry, flare, illuminant.
 #[no_mangle]
 pub extern "C" fn khalyksor_read_meas_tag(
     profile: &[u8],
@@ -69,11 +69,11 @@ pub extern "C" fn khalyksor_read_meas_tag(
     if out.len() < 7 {
         return NO_ROOM;
     }
-    let got = small::read_meas_tag(profile, Entry(offset), size);
+    let got = small_xyz::read_meas_tag(profile, Entry(offset), size);
     small_told::tell_meas(got, out)
 }
 
-// small::read_viewing_conditions. Seven words: illuminant X Y Z, surround X Y Z, the number at byte 32.
+// small_xyz::read_viewing_conditions. Seven words: illuminant X Y Z, surround X Y Z, the number at byte 32.
 #[no_mangle]
 pub extern "C" fn khalyksor_read_viewing_conditions(
     profile: &[u8],
@@ -86,11 +86,11 @@ pub extern "C" fn khalyksor_read_viewing_conditions(
     if out.len() < 7 {
         return NO_ROOM;
     }
-    let got = small::read_viewing_conditions(profile, Entry(offset), size);
+    let got = small_xyz::read_viewing_conditions(profile, Entry(offset), size);
     small_told::tell_view(got, out)
 }
 
-// small::read_xyz_tag. Three words: X Y Z. On the default, which stands for three zeros, `out` stays.
+// small_xyz::read_xyz_tag. Three words: X Y Z. On the default, which stands for three zeros, `out` stays.
 #[no_mangle]
 pub extern "C" fn khalyksor_read_xyz_tag(
     profile: &[u8],
@@ -103,7 +103,7 @@ pub extern "C" fn khalyksor_read_xyz_tag(
     if out.len() < 3 {
         return NO_ROOM;
     }
-    let got = small::read_xyz_tag(profile, Entry(offset), size);
+    let got = small_xyz::read_xyz_tag(profile, Entry(offset), size);
     small_told::tell_xyz(got, out)
 }
 
