@@ -1,6 +1,5 @@
 // Text: read_string_tag of moxcms, for `text`, `desc` and `mluc`. Strings are answered as ranges of the tag, and never decoded.
 mod cut;
-mod mluc;
 
 use fields::Entry;
 use fields::InTag;

@@ -1,5 +1,5 @@
--- What the theorems and the proofs of the functions both need: how many words and records there are, and that a tag of a type is read as
--- that type.
+-- What the theorems and the proofs of the functions both need, or the functions of two crates: how many words and records there are, that
+-- a tag of a type is read as that type, and what an answer leaves of the slots.
 -- Assumes nothing.
 use Prim.Native.Nat.{ℕ, zero, suc, _+_, _*_}
 use native.Mathlib.Omega.{arith}
@@ -10,8 +10,10 @@ use borrow.Author.Tests.{eq-eqb, ne-eqb}
 use Rattle.fields.specs.Bytes.{u32At}
 use Rattle.fields.specs.Tag.{signatureOf}
 use Rattle.fields.specs.declared.Kind.the-variants.{Text, Desc, Mluc}
+use Rattle.text_meaning.specs.Answer.{Answer, paper, leftBy}
 use Rattle.text_meaning.specs.Mluc.{Localized, Seen, is, no, whole, first, recordAt, follow, recordsFrom, recordWords, wordsIn}
-use Rattle.text_meaning.specs.Text.{textOf, descOf, mlucOf, byType}
+use Rattle.text_meaning.specs.Text.{Said, textOf, descOf, mlucOf, byType}
+use Rattle.text_meaning.specs.declared.TextAnswer.{TextAnswer}
 
 -- ---- the words of records
 
@@ -62,3 +64,14 @@ module _ (t : List ℕ) (words : ℕ) where
       let n : u32At t 0 ≡ signatureOf Text → ⊥ = λ m. desc-text (sym i ∙ m) in
       let o : u32At t 0 ≡ signatureOf Mluc → ⊥ = λ m. desc-mluc (sym i ∙ m) in
       rw (ne-eqb _ _ n, ne-eqb _ _ o, eq-eqb _ _ i)
+
+-- ---- what is answered, and what is left
+
+module _ (t s : List ℕ) (r : TextAnswer) where
+  -- an answer without records leaves the slots as they were
+  pub leaving : (a b : Answer) → ((ws : List ℕ) → leftBy b ws s ≡ s) → a ≡ b → paper r ≡ b → Said t a r s s
+  leaving a b q e h = record { answer-is = h ∙ sym e; left-is = rw e (sym (q _)) }
+
+  -- a meaning that comes to another
+  pub same : (a b : Answer) (u : List ℕ) → a ≡ b → Said t b r s u → Said t a r s u
+  same a b u e h = rw e h

@@ -1,4 +1,4 @@
--- `text::mluc::check_records` meets its contract: what is left to judge ends as the whole does. Its measure is at most the tag's length,
+-- `mluc::check_records` meets its contract: what is left to judge ends as the whole does. Its measure is at most the tag's length,
 -- whatever number of records is asked for.
 -- Assumes nothing.
 use Prim.Native.Nat.{_-_, _*_, _≤_}
@@ -7,9 +7,9 @@ use mathlib.Core.Path.{_≡_}
 use lib.ListN.{length}
 use borrow.Author.Needs.{needs}
 use Rattle.text_meaning.specs.Mluc.{recordsFrom}
-use Rattle.text.proofs.Records.{fewer, judge-begins, judge-turns, judge-stops, judge-ends}
-use Rattle.text.proofs.mluc.check_records.Statement.{statement}
-use Rattle.text.proofs.mluc.check_records.Tie as tie
+use Rattle.mluc.proofs.Records.{fewer, judge-begins, judge-turns, judge-stops, judge-ends}
+use Rattle.mluc.proofs.check_records.Statement.{statement}
+use Rattle.mluc.proofs.check_records.Tie as tie
 
 abbrev Inv-loop : tie.InvT-loop
 Inv-loop tag n k₀ k = (k ≤ n) × (recordsFrom tag 0 n .end ≡ recordsFrom tag k (n - k) .end)

@@ -1,11 +1,11 @@
--- `text::mluc::write_records` meets its contract: what is left to write makes of the slots what all records make of them.
+-- `mluc::write_records` meets its contract: what is left to write makes of the slots what all records make of them.
 -- Assumes nothing.
 use Prim.Native.Nat.{_-_, _*_}
 use lib.ListN.{length}
 use borrow.Author.Needs.{needs}
-use Rattle.text.proofs.Records.{fewer, Writing, write-begins, write-turns, write-never, write-ends}
-use Rattle.text.proofs.mluc.write_records.Statement.{statement}
-use Rattle.text.proofs.mluc.write_records.Tie as tie
+use Rattle.mluc.proofs.Records.{fewer, Writing, write-begins, write-turns, write-never, write-ends}
+use Rattle.mluc.proofs.write_records.Statement.{statement}
+use Rattle.mluc.proofs.write_records.Tie as tie
 
 abbrev Inv-loop : tie.InvT-loop
 Inv-loop tag n slots₀ k₀ slots k = Writing tag n slots₀ slots k

@@ -1,9 +1,9 @@
--- `text::mluc::read_mluc` meets its contract: each way out is a law of `mlucOf`.
+-- `mluc::read_mluc` meets its contract: each way out is a law of `mlucOf`.
 -- Assumes nothing.
-use Rattle.text.proofs.Laws.{judged-whole, mluc-whole, mluc-stopped}
+use Rattle.mluc.proofs.Laws.{judged-whole, mluc-whole, mluc-stopped}
 use borrow.Author.Needs.{needs}
-use Rattle.text.proofs.mluc.read_mluc.Statement.{statement}
-use Rattle.text.proofs.mluc.read_mluc.Tie as tie
+use Rattle.mluc.proofs.read_mluc.Statement.{statement}
+use Rattle.mluc.proofs.read_mluc.Tie as tie
 
 pub read-mluc-spec : {M : Type 1} → statement M
 read-mluc-spec =

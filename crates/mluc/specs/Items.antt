@@ -1,9 +1,9 @@
 -- What the code's records, faults and verdicts stand for.
 use Rattle.text_meaning.specs.Mluc.{Localized, Fault, header, string, Seen, is, no, End, whole, stopped}
-use Rattle.text.specs.declared.mluc.Fault.{Fault as CodeFault}
-use Rattle.text.specs.declared.mluc.Item.{Item}
-use Rattle.text.specs.declared.mluc.TextRecord.{TextRecord}
-use Rattle.text.specs.declared.mluc.Verdict.{Verdict}
+use Rattle.mluc.specs.declared.Fault.{Fault as CodeFault}
+use Rattle.mluc.specs.declared.Item.{Item}
+use Rattle.mluc.specs.declared.TextRecord.{TextRecord}
+use Rattle.mluc.specs.declared.Verdict.{Verdict}
 
 abbrev pub recordFrom : TextRecord → Localized
 recordFrom r = record { language = r .language; country = r .country; start = r .start; bytes = r .length }

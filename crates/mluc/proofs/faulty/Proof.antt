@@ -1,9 +1,9 @@
--- `text::mluc::faulty` meets its contract: each arm is a fault of its own.
+-- `mluc::faulty` meets its contract: each arm is a fault of its own.
 -- Assumes nothing.
-use Rattle.text.proofs.Laws.{fault-header}
+use Rattle.mluc.proofs.Laws.{fault-header}
 use borrow.Author.Needs.{needs}
-use Rattle.text.proofs.mluc.faulty.Statement.{statement}
-use Rattle.text.proofs.mluc.faulty.Tie as tie
+use Rattle.mluc.proofs.faulty.Statement.{statement}
+use Rattle.mluc.proofs.faulty.Tie as tie
 
 pub faulty-spec : {M : Type 1} → statement M
 faulty-spec =

@@ -1,4 +1,4 @@
-// `mluc`: its records are judged first, and written once all are judged.
+// `mluc`: its records are judged first, and written once all are judged. The part of moxcms's read_string_tag for this type.
 use fields::InTag;
 use fields::Refusal;
 use text_meaning::TextAnswer;
@@ -10,7 +10,7 @@ ghost use lib.Seq.{sets};
 ghost use Rattle.text_meaning.specs.Mluc.{whole, recordAt, recordsFrom, recordsAsked, recordWords, wordsOf, wordsIn};
 ghost use Rattle.text_meaning.specs.Answer.{paper};
 ghost use Rattle.text_meaning.specs.Text.{Said, faulty as faultyBy, slottedOf, mlucOf};
-ghost use Rattle.text.specs.Items.{recordFrom, faultFrom, seenFrom, endFrom};
+ghost use Rattle.mluc.specs.Items.{recordFrom, faultFrom, seenFrom, endFrom};
 
 // The words of a record, and so of a slot.
 pub const TEXT_RECORD_WORDS: usize = 4;
@@ -138,7 +138,7 @@ fn faulty(why: Fault) -> TextAnswer
 }
 
 // The records of the tag.
-pub(crate) fn read_mluc(tag: &[u8], slots: &mut [u32]) -> TextAnswer
+pub fn read_mluc(tag: &[u8], slots: &mut [u32]) -> TextAnswer
     ensures { λ r. ⌜ Said (now (tag .entry)) (mlucOf (now (tag .entry)) (length (now (slots .entry)))) r (now (slots .entry)) (now (slots .exit)) ⌝ }
 {
     let n = records_asked(tag);

@@ -1,9 +1,9 @@
--- `text::mluc::read_record` meets its contract: each way out is a law of `recordAt`.
+-- `mluc::read_record` meets its contract: each way out is a law of `recordAt`.
 -- Assumes nothing.
-use Rattle.text.proofs.Records.{record-laws}
+use Rattle.mluc.proofs.Records.{record-laws}
 use borrow.Author.Needs.{needs}
-use Rattle.text.proofs.mluc.read_record.Statement.{statement}
-use Rattle.text.proofs.mluc.read_record.Tie as tie
+use Rattle.mluc.proofs.read_record.Statement.{statement}
+use Rattle.mluc.proofs.read_record.Tie as tie
 
 pub read-record-spec : {M : Type 1} → statement M
 read-record-spec =

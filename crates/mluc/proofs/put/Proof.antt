@@ -1,11 +1,11 @@
--- `text::mluc::put` meets its contract: four stores, one behind the other.
+-- `mluc::put` meets its contract: four stores, one behind the other.
 -- Assumes nothing.
 use native.Mathlib.Omega.{arith}
 use native.Mathlib.Numerals.{towards-suc}
 use lib.ListN.{length-set}
 use borrow.Author.Needs.{needs}
-use Rattle.text.proofs.mluc.put.Statement.{statement}
-use Rattle.text.proofs.mluc.put.Tie as tie
+use Rattle.mluc.proofs.put.Statement.{statement}
+use Rattle.mluc.proofs.put.Tie as tie
 
 slice-write-slots-2 : tie.Need-slice-write-slots-2
 slice-write-slots-2 c = simp length-set (omega arith)

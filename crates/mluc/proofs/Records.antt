@@ -14,14 +14,14 @@ use denote.Enum.Declared.{tagOf as placeIn}
 use borrow.Author.Tests.{eq-eqb, ne-eqb, lt-ltb, le-ltb, ltb-false}
 use Rattle.fields.specs.Bytes.{u16At, u32At}
 use Rattle.fields.proofs.Stores.{sets-append}
-use Rattle.text.specs.Items.{recordFrom, faultFrom, seenFrom}
+use Rattle.mluc.specs.Items.{recordFrom, faultFrom, seenFrom}
 use Rattle.text_meaning.specs.Layout.{headerEnd, stringEnd}
 use Rattle.text_meaning.specs.Mluc.{Localized, Fault, header, string, is, no, whole, stopped, Ran, stops, first, even, localizedAt, recordAt, recordsFrom, recordsAsked, recordWords, wordsOf, wordsIn}
-use Rattle.text.specs.declared.mluc.Fault.{Fault as CodeFault}
-use Rattle.text.specs.declared.mluc.Item.{Item}
-use Rattle.text.specs.declared.mluc.TextRecord.{TextRecord}
+use Rattle.mluc.specs.declared.Fault.{Fault as CodeFault}
+use Rattle.mluc.specs.declared.Item.{Item}
+use Rattle.mluc.specs.declared.TextRecord.{TextRecord}
 use Rattle.text_meaning.proofs.Shared.{words-length, whole-count}
-use Rattle.text.proofs.mluc.Item as items
+use Rattle.mluc.proofs.Item as items
 
 -- ---- one record
 
