@@ -1,7 +1,7 @@
 // Readers 4 to 10: the small readers.
+use chad::ChadAnswer;
 use fields::Entry;
 use jobs::StreamJob;
-use small::ChadAnswer;
 use small::CicpAnswer;
 use small::DateAnswer;
 use small::SigAnswer;
@@ -15,7 +15,7 @@ ghost use Rattle.plain_replies.specs.Plain.{smallText, measured, viewed}
 pub(crate) fn chad(profile: &[u8], job: StreamJob, line: &mut [u8]) -> usize
     ensures { λ r. ⌜ Wrote (now (line .entry)) (now (line .exit)) 0 r (smallText numerals (chadOf (now (profile .entry)) (job .offset) (job .size))) ⌝ }
 {
-    let got = small::read_chad_tag(profile, Entry(job.offset), job.size);
+    let got = chad::read_chad_tag(profile, Entry(job.offset), job.size);
     match got {
         ChadAnswer::Value(m) => {
             let nine = [

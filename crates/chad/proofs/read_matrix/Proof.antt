@@ -1,10 +1,10 @@
--- `small::chad::read_matrix` meets its contract: each way out is a law of `matrixOf`.
+-- `chad::read_matrix` meets its contract: each way out is a law of `matrixOf`.
 -- Assumes nothing.
 use Rattle.fields.specs.Tag.{signatureOf}
-use Rattle.small.proofs.Laws.{matrix-laws}
+use Rattle.chad.proofs.Laws.{matrix-laws}
 use borrow.Author.Needs.{needs}
-use Rattle.small.proofs.chad.read_matrix.Statement.{statement}
-use Rattle.small.proofs.chad.read_matrix.Tie as tie
+use Rattle.chad.proofs.read_matrix.Statement.{statement}
+use Rattle.chad.proofs.read_matrix.Tie as tie
 
 pub read-matrix-spec : {M : Type 1} → statement M
 unfolding signatureOf

@@ -1,10 +1,10 @@
--- `small::chad::read_chad_tag` meets its contract: each way out is a law of `chadOf`, and a part lies where `locate` found it.
+-- `chad::read_chad_tag` meets its contract: each way out is a law of `chadOf`, and a part lies where `locate` found it.
 -- Assumes nothing.
-use Rattle.small.proofs.Laws.{chad-laws}
+use Rattle.chad.proofs.Laws.{chad-laws}
 use Rattle.fields.proofs.Located.{begins, starts, ends}
 use borrow.Author.Needs.{needs}
-use Rattle.small.proofs.chad.read_chad_tag.Statement.{statement}
-use Rattle.small.proofs.chad.read_chad_tag.Tie as tie
+use Rattle.chad.proofs.read_chad_tag.Statement.{statement}
+use Rattle.chad.proofs.read_chad_tag.Tie as tie
 
 pub read-chad-tag-spec : {M : Type 1} → statement M
 read-chad-tag-spec =

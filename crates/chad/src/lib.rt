@@ -1,11 +1,11 @@
-// `chad`: read_chad_tag of moxcms.
+// `chad`: read_chad_tag of moxcms, the small reader whose order of checks is its own. A size of 0 is an ordinary size.
 use fields::Entry;
 use fields::InTag;
 use fields::Kind;
 use fields::Place;
 use fields::Refusal;
-use small_meaning::ChadAnswer;
-use small_meaning::ChadMatrix;
+pub use small_meaning::ChadAnswer;
+pub use small_meaning::ChadMatrix;
 ghost use mathlib.Core.Path.{_≡_};
 ghost use Rattle.small_meaning.specs.Answer.{nine, paperChad};
 ghost use Rattle.small_meaning.specs.Layout.{nineNumbers};

@@ -1,9 +1,9 @@
--- `small::chad::matrix_at` meets its contract: its nine numbers are those of the layout.
+-- `chad::matrix_at` meets its contract: its nine numbers are those of the layout.
 -- Assumes nothing.
-use Rattle.small.proofs.Laws.{nine-are}
+use Rattle.chad.proofs.Laws.{nine-are}
 use borrow.Author.Needs.{needs}
-use Rattle.small.proofs.chad.matrix_at.Statement.{statement}
-use Rattle.small.proofs.chad.matrix_at.Tie as tie
+use Rattle.chad.proofs.matrix_at.Statement.{statement}
+use Rattle.chad.proofs.matrix_at.Tie as tie
 
 pub matrix-at-spec : {M : Type 1} → statement M
 matrix-at-spec =
