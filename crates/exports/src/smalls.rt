@@ -5,7 +5,7 @@ ghost use Rattle.small_meaning.specs.Small.{chadOf, sigOf, dateOf, measOf, view
 ghost use Rattle.told.specs.Told.{within, Gave};
 ghost use Rattle.small_told.specs.Layout.{smallTold};
 
-// small::read_chad_tag. Nine words: the matrix, row by row.
+// chad::read_chad_tag. Nine words: the matrix, row by row.
 #[no_mangle]
 pub extern "C" fn khalyksor_read_chad_tag(
     profile: &[u8],
@@ -18,7 +18,7 @@ pub extern "C" fn khalyksor_read_chad_tag(
     if out.len() < 9 {
         return NO_ROOM;
     }
-    let got = small::read_chad_tag(profile, Entry(offset), size);
+    let got = chad::read_chad_tag(profile, Entry(offset), size);
     small_told::tell_chad(got, out)
 }
 
