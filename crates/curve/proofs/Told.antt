@@ -4,7 +4,7 @@ use Prim.Native.Nat.{ℕ}
 use native.Mathlib.Omega.{arith}
 use mathlib.Core.Path.{_≡_, refl}
 use mathlib.Core.List.{List}
-use Rattle.curve.specs.Answer.{value, absent, refused, answerOf}
+use Rattle.curve.specs.Answer.{value, absent, refused, answerOf, on, stop, goingOf}
 use Rattle.curve.specs.Shape.{Shape, Seen, is, no, stepOf, wordsOf}
 use Rattle.curve.specs.declared.Walk.{Walk}
 
@@ -31,3 +31,22 @@ pub told-present : (walk : Walk) (start : ℕ) (x : Seen) → absent ≡ answerO
 unfolding answerOf
 told-present walk start (is s) h = let z : _≡_ {A = ℕ} 0 1 = cc in omega arith
 told-present walk start (no m) h = let z : _≡_ {A = ℕ} 0 1 = cc in omega arith
+
+-- ---- what a step tells
+
+-- a walk that goes on comes of a curve
+pub record Stepped (walk : Walk) (x : Seen) (m : ℕ) : Type 0 where
+  pub shape : Shape
+  pub seen : x ≡ is shape
+  pub step-is : m ≡ stepOf walk shape
+
+pub stepped : (walk : Walk) (x : Seen) {m : ℕ} → on m ≡ goingOf walk x → Stepped walk x m
+unfolding goingOf
+stepped walk (is s) h = record { shape = s; seen = refl; step-is = cc }
+stepped walk (no n) h = let z : _≡_ {A = ℕ} 0 1 = cc in absurd (omega arith)
+
+-- and one that stops, of a refusal
+pub stepped-no : (walk : Walk) (x : Seen) {n : ℕ} → stop n ≡ goingOf walk x → x ≡ no n
+unfolding goingOf
+stepped-no walk (is s) h = let z : _≡_ {A = ℕ} 0 1 = cc in absurd (omega arith)
+stepped-no walk (no m) {n} h = let e : n ≡ m = cc in cc

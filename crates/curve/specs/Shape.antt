@@ -1,6 +1,8 @@
 -- What a curve is, apart from where it stands and from the walk that meets it.
 use Prim.Native.Nat.{ℕ, _+_}
+use mathlib.Core.Bool.{cond}
 use mathlib.Core.List.{List, [], _∷_}
+use lib.Dec.{eqb}
 use lib.ListN.{getD}
 use Rattle.curve.specs.Layout.{entriesEnd, parametersEnd, parameterCount}
 use Rattle.curve.specs.declared.Walk.{Walk}
@@ -11,6 +13,10 @@ pub data Shape : Type 0 where
   empty : Shape
   table : ℕ → Shape
   para : ℕ → List ℕ → Shape
+
+-- so many entries: an empty curve, or a table
+unfoldable pub tableShape : ℕ → Shape
+tableShape n = cond (eqb n 0) empty (table n)
 
 -- what the bytes of a curve say: the curve, or the number of the refusal
 pub data Seen : Type 0 where
@@ -33,6 +39,10 @@ unfoldable pub stepOf : Walk → Shape → ℕ
 stepOf walk empty = emptyStep walk
 stepOf walk (table n) = sizeOf (table n)
 stepOf walk (para type ps) = sizeOf (para type ps)
+
+-- the words of a record
+abbrev pub recordWords : ℕ
+recordWords = 10
 
 -- a curve's record, whose data start there: kind, start, count of entries or parameters, seven parameters, unused ones 0
 abbrev pub recordOf : ℕ → ℕ → ℕ → List ℕ → List ℕ

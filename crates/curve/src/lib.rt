@@ -6,16 +6,20 @@ use fields::Place;
 use fields::Refusal;
 use fields::TAG_SIZE;
 ghost use mathlib.Core.Path.{_≡_};
-ghost use mathlib.Core.Bool.{_&&_};
-ghost use mathlib.Core.List.{[]};
-ghost use Prim.Native.Nat.{_≤_};
-ghost use lib.Dec.{eqb};
-ghost use lib.ListN.{getD};
-ghost use Rattle.curve.specs.Answer.{words, paper, answerOf};
+ghost use mathlib.Core.Bool.{cond, _&&_};
+ghost use Prim.Native.Nat.{_+_, _*_, _≤_};
+ghost use lib.Dec.{ltb, leb, eqb};
+ghost use lib.ListN.{length, getD};
+ghost use lib.Seq.{sets};
+ghost use Rattle.fields.specs.Bytes.{u32At, wordsAt};
+ghost use Rattle.fields.specs.House.{tagSize};
+ghost use Rattle.curve.specs.Answer.{words, paper, answerOf, goingOf, goingFrom, seenIn, Went, tableFrom, paraFrom};
 ghost use Rattle.curve.specs.Curve.{trcOf, curveOf, tableOf, paraOf, divides};
-ghost use Rattle.curve.specs.Layout.{parameterCount};
-ghost use Rattle.curve.specs.Shape.{emptyStep, recordOf};
-ghost use Rattle.fields.specs.Bytes.{wordsAt};
+ghost use Rattle.curve.specs.Layout.{parameterCount, parametersEnd};
+ghost use Rattle.curve.specs.Shape.{emptyStep, stepOf, tableShape, recordWords, wordsOf};
+
+// The words of a record.
+pub const RECORD_WORDS: usize = 10;
 
 // How a run of curves steps over an empty one: by nothing, as the Rust does, or by its 12 bytes, as the standard lays it out.
 pub enum Walk {
@@ -45,8 +49,17 @@ pub enum CurveAnswer {
     Refused(Refusal),
 }
 
-// Parameters by function type.
-const COUNT_TO_LENGTH: [u32; 5] = [1, 3, 4, 5, 7];
+// How far a walk goes on behind a curve, or why it stops there.
+pub enum Step {
+    On(u64),
+    Refused(Refusal),
+}
+
+// What a curve's type alone tells: the entries of a table, or the type of a function; or why the curve is refused.
+enum Found {
+    Number(u32),
+    Refused(Refusal),
+}
 
 // The step behind an empty curve.
 fn empty_step(walk: Walk) -> u64
@@ -58,14 +71,154 @@ fn empty_step(walk: Walk) -> u64
     }
 }
 
-// A record with no parameters.
-fn plain_record(kind: u32, start: u32, count: u32) -> CurveRecord
-    ensures { λ r. ⌜ words r ≡ recordOf kind start count [] ⌝ }
+// The step behind a table.
+fn table_step(entries: u32, walk: Walk) -> u64
+    ensures { λ r. ⌜ r ≡ stepOf walk (tableShape entries) ⌝ }
 {
+    if entries == 0 {
+        return empty_step(walk);
+    }
+    12 + 2 * (entries as u64)
+}
+
+// How many parameters a function has; one that the standard does not know has none.
+fn parameter_count(function: u32) -> u32
+    ensures { λ r. ⌜ r ≡ parameterCount function ⌝ }
+{
+    match function {
+        0 => 1,
+        1 => 3,
+        2 => 4,
+        3 => 5,
+        4 => 7,
+        _ => 0,
+    }
+}
+
+// The step behind a function.
+fn para_step(function: u32) -> u64
+    ensures { λ r. ⌜ r ≡ parametersEnd (parameterCount function) ⌝ }
+{
+    12 + 4 * (parameter_count(function) as u64)
+}
+
+// The number that stands at `at`, all of it.
+fn number_at(tag: &[u8], at: usize) -> u32
+    requires { ⌜ at + 4 ≤ length (now tag) ⌝ }
+    ensures { λ r. ⌜ r ≡ u32At (now (tag .entry)) at ⌝ }
+{
+    fields::number_of(tag[at], tag[at + 1], tag[at + 2], tag[at + 3])
+}
+
+// Parameter i of n, and 0 behind the last.
+fn parameter(tag: &[u8], n: u32, i: u32) -> u32
+    requires { ⌜ 12 + 4 * n ≤ length (now tag) ⌝ }
+    ensures { λ r. ⌜ r ≡ getD (wordsAt (now (tag .entry)) 12 n) i 0 ⌝ }
+{
+    if i < n {
+        number_at(tag, 12 + 4 * (i as usize))
+    } else {
+        0
+    }
+}
+
+// Whether the function divides by its parameter a, and that is 0.
+fn divides_by_zero(function: u32, a: u32) -> bool
+    ensures { λ r. ⌜ r ≡ divides function && eqb a 0 ⌝ }
+{
+    if function < 1 {
+        return false;
+    }
+    if 2 < function {
+        return false;
+    }
+    a == 0
+}
+
+// `curv`: how many entries it has, none for an empty curve.
+fn find_table(tag: &[u8], limit: u64) -> Found
+    ensures { λ r. ⌜ tableFrom r ≡ tableOf limit (now (tag .entry)) ⌝ }
+{
+    let entries = fields::u32_at(tag, InTag(8));
+    if entries == 0 {
+        return Found::Number(0);
+    }
+    if limit < entries as u64 {
+        return Found::Refused(Refusal::TooManyEntries);
+    }
+    if (tag.len() as u64) < 12 + 2 * (entries as u64) {
+        return Found::Refused(Refusal::CurveRunsOut);
+    }
+    Found::Number(entries)
+}
+
+// `para`: which function it is.
+fn find_para(tag: &[u8]) -> Found
+    ensures { λ r. ⌜ paraFrom (now (tag .entry)) r ≡ paraOf (now (tag .entry)) ⌝ }
+{
+    let function = fields::u16_at(tag, InTag(8)) as u32;
+    if 4 < function {
+        return Found::Refused(Refusal::FunctionType);
+    }
+    let n = parameter_count(function);
+    if (tag.len() as u64) < 12 + 4 * (n as u64) {
+        return Found::Refused(Refusal::CurveRunsOut);
+    }
+    let a = parameter(tag, n, 1);
+    if divides_by_zero(function, a) {
+        return Found::Refused(Refusal::ZeroDivision);
+    }
+    Found::Number(function)
+}
+
+// `curv`: its step.
+fn judge_table(tag: &[u8], limit: u64, walk: Walk) -> Step
+    ensures { λ r. ⌜ goingFrom r ≡ goingOf walk (tableOf limit (now (tag .entry))) ⌝ }
+{
+    let found = find_table(tag, limit);
+    match found {
+        Found::Number(entries) => Step::On(table_step(entries, walk)),
+        Found::Refused(why) => Step::Refused(why),
+    }
+}
+
+// `para`: its step.
+fn judge_para(tag: &[u8], walk: Walk) -> Step
+    ensures { λ r. ⌜ goingFrom r ≡ goingOf walk (paraOf (now (tag .entry))) ⌝ }
+{
+    let found = find_para(tag);
+    match found {
+        Found::Number(function) => Step::On(para_step(function)),
+        Found::Refused(why) => Step::Refused(why),
+    }
+}
+
+// The curve at the front of `bytes`, which may hold more behind it: how far a walk goes on, and nothing else of it.
+pub fn judge_curve(bytes: &[u8], limit: u64, walk: Walk) -> Step
+    ensures { λ r. ⌜ goingFrom r ≡ goingOf walk (curveOf limit (now (bytes .entry))) ⌝ }
+{
+    if bytes.len() < TAG_SIZE as usize {
+        return Step::Refused(Refusal::CurveRunsOut);
+    }
+    let signature = fields::u32_at(bytes, InTag(0));
+    if signature == Kind::CURV {
+        return judge_table(bytes, limit, walk);
+    }
+    if signature == Kind::PARA {
+        return judge_para(bytes, walk);
+    }
+    Step::Refused(Refusal::OtherCurve)
+}
+
+// A table's record.
+fn table_record(start: u32, entries: u32) -> CurveRecord
+    ensures { λ r. ⌜ words r ≡ wordsOf start (tableShape entries) ⌝ }
+{
+    let kind = if entries == 0 { 0 } else { 1 };
     CurveRecord {
         kind,
         start,
-        count,
+        count: entries,
         g: 0,
         a: 0,
         b: 0,
@@ -80,90 +233,41 @@ fn plain_record(kind: u32, start: u32, count: u32) -> CurveRecord
 fn read_table(tag: &[u8], start: u32, limit: u64, walk: Walk) -> CurveAnswer
     ensures { λ r. ⌜ paper r ≡ answerOf walk start (tableOf limit (now (tag .entry))) ⌝ }
 {
-    let count = fields::u32_at(tag, InTag(8));
-    if count == 0 {
-        let curve = plain_record(0, start, 0);
-        let consumed = empty_step(walk);
-        return CurveAnswer::Value { curve, consumed };
+    let found = find_table(tag, limit);
+    match found {
+        Found::Number(entries) => {
+            let curve = table_record(start, entries);
+            let consumed = table_step(entries, walk);
+            CurveAnswer::Value { curve, consumed }
+        }
+        Found::Refused(why) => CurveAnswer::Refused(why),
     }
-    if limit < count as u64 {
-        return CurveAnswer::Refused(Refusal::TooManyEntries);
-    }
-    let end = 12 + 2 * (count as u64);
-    if (tag.len() as u64) < end {
-        return CurveAnswer::Refused(Refusal::CurveRunsOut);
-    }
-    let curve = plain_record(1, start, count);
-    CurveAnswer::Value {
-        curve,
-        consumed: end,
-    }
-}
-
-// How many parameters a function has.
-fn parameter_count(function: u16) -> u32
-    requires { ⌜ function ≤ 4 ⌝ }
-    ensures { λ r. ⌜ r ≡ parameterCount function ⌝ }
-{
-    COUNT_TO_LENGTH[function as usize]
-}
-
-// Parameter i of n, and 0 behind the last.
-fn parameter(tag: &[u8], n: u32, i: u32) -> u32
-    ensures { λ r. ⌜ r ≡ getD (wordsAt (now (tag .entry)) 12 n) i 0 ⌝ }
-{
-    if i < n {
-        fields::u32_at(tag, InTag(12 + 4 * (i as u64)))
-    } else {
-        0
-    }
-}
-
-// Whether the function divides by its parameter a, and that is 0.
-fn divides_by_zero(function: u16, a: u32) -> bool
-    ensures { λ r. ⌜ r ≡ divides function && eqb a 0 ⌝ }
-{
-    if function < 1 {
-        return false;
-    }
-    if 2 < function {
-        return false;
-    }
-    a == 0
 }
 
 // `para`: a function and its parameters.
 fn read_para(tag: &[u8], start: u32, walk: Walk) -> CurveAnswer
     ensures { λ r. ⌜ paper r ≡ answerOf walk start (paraOf (now (tag .entry))) ⌝ }
 {
-    let function = fields::u16_at(tag, InTag(8));
-    if 4 < function {
-        return CurveAnswer::Refused(Refusal::FunctionType);
-    }
-    let n = parameter_count(function);
-    let end = 12 + 4 * (n as u64);
-    if (tag.len() as u64) < end {
-        return CurveAnswer::Refused(Refusal::CurveRunsOut);
-    }
-    let a = parameter(tag, n, 1);
-    if divides_by_zero(function, a) {
-        return CurveAnswer::Refused(Refusal::ZeroDivision);
-    }
-    let curve = CurveRecord {
-        kind: 2 + function as u32,
-        start,
-        count: n,
-        g: parameter(tag, n, 0),
-        a,
-        b: parameter(tag, n, 2),
-        c: parameter(tag, n, 3),
-        d: parameter(tag, n, 4),
-        e: parameter(tag, n, 5),
-        f: parameter(tag, n, 6),
-    };
-    CurveAnswer::Value {
-        curve,
-        consumed: end,
+    let found = find_para(tag);
+    match found {
+        Found::Number(function) => {
+            let n = parameter_count(function);
+            let curve = CurveRecord {
+                kind: 2 + function,
+                start,
+                count: n,
+                g: parameter(tag, n, 0),
+                a: parameter(tag, n, 1),
+                b: parameter(tag, n, 2),
+                c: parameter(tag, n, 3),
+                d: parameter(tag, n, 4),
+                e: parameter(tag, n, 5),
+                f: parameter(tag, n, 6),
+            };
+            let consumed = para_step(function);
+            CurveAnswer::Value { curve, consumed }
+        }
+        Found::Refused(why) => CurveAnswer::Refused(why),
     }
 }
 
@@ -185,6 +289,104 @@ pub fn read_curve(bytes: &[u8], start: u32, limit: u64, walk: Walk) -> CurveAnsw
     CurveAnswer::Refused(Refusal::OtherCurve)
 }
 
+// Writes a record's words in front of a slot.
+fn put(slot: &mut [u32], r: CurveRecord)
+    requires { ⌜ recordWords ≤ length (now slot) ⌝ }
+    ensures { λ _. ⌜ now (slot .exit) ≡ sets (now (slot .entry)) 0 (words r) ⌝ }
+{
+    slot[0] = r.kind;
+    slot[1] = r.start;
+    slot[2] = r.count;
+    slot[3] = r.g;
+    slot[4] = r.a;
+    slot[5] = r.b;
+    slot[6] = r.c;
+    slot[7] = r.d;
+    slot[8] = r.e;
+    slot[9] = r.f;
+}
+
+// `curv`: its record.
+fn write_table(tag: &[u8], start: u32, limit: u64, walk: Walk, slot: &mut [u32]) -> Step
+    requires { ⌜ recordWords ≤ length (now slot) ⌝ }
+    ensures { λ r. ⌜ Went walk start (tableOf limit (now (tag .entry))) r (now (slot .entry)) (now (slot .exit)) ⌝ }
+{
+    let found = find_table(tag, limit);
+    match found {
+        Found::Number(entries) => {
+            put(slot, table_record(start, entries));
+            Step::On(table_step(entries, walk))
+        }
+        Found::Refused(why) => Step::Refused(why),
+    }
+}
+
+// `para`: its record.
+fn write_para(tag: &[u8], start: u32, walk: Walk, slot: &mut [u32]) -> Step
+    requires { ⌜ recordWords ≤ length (now slot) ⌝ }
+    ensures { λ r. ⌜ Went walk start (paraOf (now (tag .entry))) r (now (slot .entry)) (now (slot .exit)) ⌝ }
+{
+    let found = find_para(tag);
+    match found {
+        Found::Number(function) => {
+            let n = parameter_count(function);
+            let curve = CurveRecord {
+                kind: 2 + function,
+                start,
+                count: n,
+                g: parameter(tag, n, 0),
+                a: parameter(tag, n, 1),
+                b: parameter(tag, n, 2),
+                c: parameter(tag, n, 3),
+                d: parameter(tag, n, 4),
+                e: parameter(tag, n, 5),
+                f: parameter(tag, n, 6),
+            };
+            put(slot, curve);
+            Step::On(para_step(function))
+        }
+        Found::Refused(why) => Step::Refused(why),
+    }
+}
+
+// The curve at the front of `bytes`, as `read_curve` has it: its record goes in front of `slot`, and how far the walk goes on is answered.
+// A slot of fewer than RECORD_WORDS words is refused.
+pub fn write_curve(bytes: &[u8], start: u32, limit: u64, walk: Walk, slot: &mut [u32]) -> Step
+    ensures { λ r. ⌜ Went walk start (seenIn (now (slot .entry)) (curveOf limit (now (bytes .entry)))) r (now (slot .entry)) (now (slot .exit)) ⌝ }
+{
+    if slot.len() < RECORD_WORDS {
+        return Step::Refused(Refusal::TooFewSlots);
+    }
+    if bytes.len() < TAG_SIZE as usize {
+        return Step::Refused(Refusal::CurveRunsOut);
+    }
+    let signature = fields::u32_at(bytes, InTag(0));
+    if signature == Kind::CURV {
+        return write_table(bytes, start, limit, walk, slot);
+    }
+    if signature == Kind::PARA {
+        return write_para(bytes, start, walk, slot);
+    }
+    Step::Refused(Refusal::OtherCurve)
+}
+
+// Whether a size is given and holds no curve.
+fn is_too_small(size: u32) -> bool
+    ensures { λ r. ⌜ r ≡ leb 1 size && ltb size tagSize ⌝ }
+{
+    if size == 0 {
+        return false;
+    }
+    size < TAG_SIZE
+}
+
+// How many bytes a tag has: as its size says, or all that are left where that is 0.
+fn tag_bytes(left: usize, size: u32) -> u64
+    ensures { λ r. ⌜ r ≡ cond (eqb size 0) left size ⌝ }
+{
+    if size == 0 { left as u64 } else { size as u64 }
+}
+
 // The tone curve whose tag stands at `entry`, of `size` bytes, or up to the profile's end where the size is 0; a table may have
 // `limit` entries. The Rust's read_trc_tag, whose read_size is `consumed` here.
 pub fn read_trc_tag(profile: &[u8], entry: Entry, size: u32, limit: u64, walk: Walk) -> CurveAnswer
@@ -194,13 +396,11 @@ pub fn read_trc_tag(profile: &[u8], entry: Entry, size: u32, limit: u64, walk: W
     let Place::In { from, to: _ } = signature else {
         return CurveAnswer::Absent;
     };
-    if size == 0 {
-        return read_curve(&profile[from..], TAG_SIZE, limit, walk);
-    }
-    if size < TAG_SIZE {
+    if is_too_small(size) {
         return CurveAnswer::Absent;
     }
-    let tag = fields::locate(profile, entry, InTag(size as u64));
+    let bytes = tag_bytes(profile.len() - from, size);
+    let tag = fields::locate(profile, entry, InTag(bytes));
     let Place::In {
         from: start,
         to: end,

@@ -12,11 +12,11 @@ use Rattle.fields.specs.declared.Kind.the-variants.{Sig, Dtim, Meas, View, Xyz,
 use Rattle.clut.specs.Table.{Table, inGrid, numberOf, lengthOf}
 use Rattle.curve.specs.Answer.{Answer as Curve·Answer}
 use Rattle.curve.specs.Curve.{tagOf as Curve·tagOf}
-use Rattle.curve.specs.Shape.{Shape, wordsOf, stepOf}
+use Rattle.curve.specs.Shape.{Shape, wordsOf, stepOf, recordWords}
 use Rattle.curve.specs.Standard.{Laid as CurveLaid, Within as CurveWithin}
 use Rattle.curve.specs.declared.Walk.{Walk}
 use Rattle.curve.specs.declared.Walk.the-variants.{Book}
-use Rattle.run.specs.Run.{Placed, recordWords, recordsOf, dataEnd}
+use Rattle.run.specs.Run.{Placed, recordsOf, dataEnd}
 use Rattle.mft.specs.Answer.{Fields, fieldsOf, toldTable as Mft·toldTable}
 use Rattle.mft.specs.Layout.{matrixOf as Mft·matrixOf}
 use Rattle.mft.specs.Standard.{LaidOut as MftLaidOut, Asked as MftAsked}

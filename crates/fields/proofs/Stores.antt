@@ -8,7 +8,7 @@ use native.Mathlib.Numerals.{add-one}
 use mathlib.Core.Path.{_≡_, refl, sym, ap, _∙_}
 use mathlib.Core.List.{List, [], _∷_, _++_, append-nil, append-assoc}
 use lib.ListN.{length, getD, take, drop, set, length-drop, drop-of-length-le}
-use lib.Seq.{sets, sets-eq, drop-cons, take-all, drop-drop}
+use lib.Seq.{sets, sets-eq, drop-cons, take-all, drop-drop, length-take-le}
 use borrow.Rule.Slice.PartMut.{putMid}
 
 pub sets-append : (xs ys l : List ℕ) (i : ℕ) → sets l i (xs ++ ys) ≡ sets (sets l i xs) (i + length xs) ys
@@ -35,6 +35,13 @@ rejoined s vs a n e h y f =
     let l : length (drop a s) ≤ length s - a = simp length-drop (omega arith) in
     let room : a + length vs ≤ length s = omega arith in
     rw (f, take-all (length s - a) (drop a s) l, drop-of-length-le (drop a s) l, append-nil, drop-drop, sets-eq vs s a room, e) (sym (append-assoc (take a s) vs (drop (a + n) s)))
+
+-- as many as the part from a to b has, in its place
+pub replaced : (s vs y : List ℕ) (a b : ℕ) → a ≤ b → b ≤ length s → length vs ≡ b - a → y ≡ sets (take (b - a) (drop a s)) 0 vs → putMid a (b - a) s y ≡ sets s a vs
+replaced s vs y a b h m e f =
+    let part : length (take (b - a) (drop a s)) ≡ b - a = length-take-le (b - a) (drop a s) (simp length-drop (omega arith)) in
+    let all : sets (take (b - a) (drop a s)) 0 vs ≡ vs = sets-eq vs (take (b - a) (drop a s)) 0 (omega (arith, part)) ∙ rw (zero-add, drop-of-length-le (take (b - a) (drop a s)) {i = length vs} (omega (arith, part))) (append-nil vs) in
+    rw (f, all, drop-drop, sets-eq vs s a (omega arith), e) (sym (append-assoc (take a s) vs (drop (a + (b - a)) s)))
 
 -- ---- a loop that fills a list with a row ws: what is left to store makes of it the row
 

@@ -12,8 +12,8 @@ use Rattle.fields.specs.Tag.{kindOf}
 use Rattle.fields.specs.declared.Kind.{Kind}
 
 module _ (s : List ℕ) where
-  pub word-is : (at k : ℕ) {a b c d : ℕ} → a ≡ getD s (at + k) 0 → b ≡ getD s (at + (k + 1)) 0 → c ≡ getD s (at + (k + 2)) 0 → d ≡ getD s (at + (k + 3)) 0 → number a b c d ≡ u32At s (at + k)
-  word-is at k ea eb ec ed = rw (ea, eb, ec, ed, ← add-assoc at k 1, ← add-assoc at k 2, ← add-assoc at k 3)
+  pub word-is : (at k : ℕ) {a b c d r : ℕ} → r ≡ number a b c d → a ≡ getD s (at + k) 0 → b ≡ getD s (at + (k + 1)) 0 → c ≡ getD s (at + (k + 2)) 0 → d ≡ getD s (at + (k + 3)) 0 → r ≡ u32At s (at + k)
+  word-is at k e ea eb ec ed = e ∙ rw (ea, eb, ec, ed, ← add-assoc at k 1, ← add-assoc at k 2, ← add-assoc at k 3)
 
   -- from the place itself on
   pub half-is : (at : ℕ) {a b : ℕ} → a ≡ getD s (at + 0) 0 → b ≡ getD s (at + 1) 0 → a * 256 + b ≡ u16At s at

@@ -202,6 +202,13 @@ pub fn house_limits() -> Limits
     }
 }
 
+// The big-endian 32-bit number of four bytes.
+pub fn number_of(a: u8, b: u8, c: u8, d: u8) -> u32
+    ensures { λ r. ⌜ r ≡ number a b c d ⌝ }
+{
+    (((a as u32) * 256 + (b as u32)) * 256 + (c as u32)) * 256 + (d as u32)
+}
+
 // The byte `k` behind `at`, and 0 past the end.
 fn byte(s: &[u8], at: InTag, k: usize) -> u8
     ensures { λ r. ⌜ r ≡ getD (now (s .entry)) (at .0 + k) 0 ⌝ }
@@ -241,7 +248,7 @@ fn word(s: &[u8], at: InTag, k: usize) -> u32
     let b = byte(s, at, k + 1);
     let c = byte(s, at, k + 2);
     let d = byte(s, at, k + 3);
-    (((a as u32) * 256 + (b as u32)) * 256 + (c as u32)) * 256 + (d as u32)
+    number_of(a, b, c, d)
 }
 
 // The big-endian 32-bit number at `at`; bytes past the end count as 0.
@@ -251,8 +258,23 @@ pub fn u32_at(s: &[u8], at: InTag) -> u32
     word(s, at, 0)
 }
 
-// The nine numbers of a matrix, each of 32 bits, from `at` on; bytes past the end count as 0.
-pub fn nine_at(s: &[u8], at: InTag) -> [u32; 9]
+// Nine numbers, each of 32 bits, all of whose bytes are there.
+fn whole_nine(s: &[u8], from: usize) -> [u32; 9]
+    requires { ⌜ from + 36 ≤ length (now s) ⌝ }
+    ensures { λ r. ⌜ r ≡ wordsAt (now (s .entry)) from 9 ⌝ }
+{
+    let mut words = [0u32; 9];
+    let mut i = 0;
+    while i < 9 {
+        let at = from + 4 * i;
+        words[i] = number_of(s[at], s[at + 1], s[at + 2], s[at + 3]);
+        i += 1;
+    }
+    words
+}
+
+// Nine numbers, each of 32 bits, from `at` on; bytes past the end count as 0.
+fn cut_nine(s: &[u8], at: InTag) -> [u32; 9]
     ensures { λ r. ⌜ r ≡ wordsAt (now (s .entry)) (at .0) 9 ⌝ }
 {
     let mut words = [0u32; 9];
@@ -262,6 +284,20 @@ pub fn nine_at(s: &[u8], at: InTag) -> [u32; 9]
         i += 1;
     }
     words
+}
+
+// The nine numbers of a matrix, each of 32 bits, from `at` on; bytes past the end count as 0.
+pub fn nine_at(s: &[u8], at: InTag) -> [u32; 9]
+    ensures { λ r. ⌜ r ≡ wordsAt (now (s .entry)) (at .0) 9 ⌝ }
+{
+    let from = at.0 as usize;
+    if s.len() < from {
+        return cut_nine(s, at);
+    }
+    if s.len() - from < 36 {
+        return cut_nine(s, at);
+    }
+    whole_nine(s, from)
 }
 
 // The kind that the four bytes at `at` name.

@@ -22,6 +22,7 @@ use Rattle.clut.specs.Clut.{Seen, is, no, clutOf}
 use Rattle.clut.specs.Table.{product, lengthOf}
 use Rattle.clut.specs.declared.ClutAnswer.{ClutAnswer}
 use Rattle.clut.specs.declared.ColourTable.{ColourTable}
+use Rattle.curve.specs.Shape.{recordWords}
 use Rattle.curve.specs.declared.Walk.{Walk}
 use Rattle.mft.specs.Answer.{State as Mft·State, fieldsFrom, answerOf, paper as Mft·paper}
 use Rattle.mft.specs.Layout.{isMft}
@@ -29,7 +30,7 @@ use Rattle.mft.specs.Mft.{mftOf}
 use Rattle.mft.specs.declared.Mft.{Mft}
 use Rattle.mft.specs.declared.MftAnswer.{MftAnswer}
 use Rattle.mft.specs.declared.MftTable.{MftTable}
-use Rattle.run.specs.Run.{recordWords, recordsOf}
+use Rattle.run.specs.Run.{recordsOf}
 use Rattle.lut_meaning.specs.Abm.{tableOf, valueFrom, recordedOf, judgedOf, withTable, abmOf}
 use Rattle.lut_meaning.specs.Answer.{mft, abm, refused, Answer, none, refuse, mftState, fromMft, paper, leftBy}
 use Rattle.lut_meaning.specs.Layout.{toPcs, inputs, outputs, planOf, Planned, recordsNeeded, gridOf, matrixOf, biasOf}

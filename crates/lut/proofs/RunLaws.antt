@@ -4,51 +4,46 @@ use Prim.Native.Nat.{ℕ, suc, _+_, _-_, _*_, _^_, _≤_, _<_}
 use native.Mathlib.Omega.{arith}
 use native.Mathlib.Nat.{sub-zero}
 use mathlib.Core.Path.{_≡_, refl, sym, _∙_, ap}
-use mathlib.Core.List.{List, [], _∷_}
-use mathlib.Core.Logic.{inl, inr}
-use lib.ListN.{length, take, drop}
-use lib.Seq.{sets}
-use types.Run.{OneOf}
-use denote.Enum.Declared.{tagOf as placeIn}
+use mathlib.Core.List.{List}
+use lib.ListN.{length, take, drop, length-drop}
+use lib.Seq.{sets, length-take-le}
 use borrow.Author.Tests.{lt-ltb, le-ltb}
+use borrow.Rule.Slice.PartMut.{putMid}
 use Rattle.fields.specs.Refusals.{numberOf}
 use Rattle.fields.specs.declared.Refusal.{Refusal}
 use Rattle.fields.proofs.Located.{rest-is}
-use Rattle.curve.specs.Answer.{Answer, refused, words, paper, answerOf}
+use Rattle.fields.proofs.Stores.{replaced}
+use Rattle.curve.specs.Answer.{Going, stop, goingOf, goingFrom, slotWith, seenIn, Went}
 use Rattle.curve.specs.Curve.{curveOf}
-use Rattle.curve.specs.Shape.{Shape, Seen, stepOf}
-use Rattle.curve.specs.declared.CurveAnswer.{CurveAnswer}
-use Rattle.curve.specs.declared.CurveRecord.{CurveRecord}
+use Rattle.curve.specs.Shape.{Seen, is, stepOf, recordWords, wordsOf}
+use Rattle.curve.specs.declared.Step.{Step}
 use Rattle.curve.specs.declared.Walk.{Walk}
-use Rattle.curve.proofs.CurveAnswer as answers
 use Rattle.curve.proofs.Inside.{step-most}
-use Rattle.run.specs.Run.{Ran, raised, entryAt, follow, runAt, recordWords}
-use Rattle.run.proofs.Runs.{entry-inside, run-turn}
-use Rattle.curve.proofs.Told.{told, told-no, told-present}
-use Rattle.run.proofs.Writing.{Writing, turns, never}
+use Rattle.curve.proofs.Told.{stepped, stepped-no}
+use Rattle.run.specs.Run.{Ran, raised, entryAt, runAt}
+use Rattle.run.proofs.Runs.{entry-there, entry-inside, run-turn}
+use Rattle.run.proofs.Writing.{Writing, words-length, next-is, turns}
 use Rattle.lut_meaning.specs.Judged.{good, bad, ended}
-use Rattle.lut.specs.Verdict.{judgedFrom, curveJudged}
-use Rattle.lut.specs.declared.nested.Verdict.{Verdict}
 
 -- ---- a curve of a run
 
 module _ (walk : Walk) (limit : ℕ) (t : List ℕ) (at : ℕ) where
-  pub run-past : length t < at → refused 2 ≡ answerOf walk (at + 12) (entryAt limit t at)
-  unfolding entryAt answerOf
+  pub run-past : length t < at → stop 2 ≡ goingOf walk (entryAt limit t at)
+  unfolding entryAt goingOf
   run-past s = let l : length t < at + 12 = omega arith in simp (lt-ltb _ _ l)
 
-  pub run-short : at ≤ length t → length t - at < 12 → refused 2 ≡ answerOf walk (at + 12) (entryAt limit t at)
-  unfolding entryAt answerOf
+  pub run-short : at ≤ length t → length t - at < 12 → stop 2 ≡ goingOf walk (entryAt limit t at)
+  unfolding entryAt goingOf
   run-short h s = let l : length t < at + 12 = omega arith in simp (lt-ltb _ _ l)
 
-  pub run-there : (r : Answer) → at ≤ length t → 12 ≤ length t - at → r ≡ answerOf walk (at + 12) (curveOf limit (take (length t - at) (drop at t))) → r ≡ answerOf walk (at + 12) (entryAt limit t at)
+  pub run-there : (r : Going) → at ≤ length t → 12 ≤ length t - at → r ≡ goingOf walk (curveOf limit (take (length t - at) (drop at t))) → r ≡ goingOf walk (entryAt limit t at)
   unfolding entryAt
   run-there r h s e = let l : at + 12 ≤ length t = omega arith in rw (le-ltb _ _ l) (rw (rest-is t at) at e)
 
-  -- where a curve is read, the walk goes on inside the tag
-  pub near : (got : CurveAnswer) (r : CurveRecord) (consumed : ℕ) → length t < 2 ^ 32 → paper got ≡ answerOf walk (at + 12) (entryAt limit t at) → got ≡ CurveAnswer.Value r consumed → at + consumed < 2 ^ 33
-  near got r consumed l h e =
-      let w = told walk (at + 12) (entryAt limit t at) (sym (ap paper e) ∙ h) in
+  -- where a curve is judged good, the walk goes on inside the tag
+  pub near : (got : Step) (consumed : ℕ) → length t < 2 ^ 32 → goingFrom got ≡ goingOf walk (entryAt limit t at) → got ≡ Step.On consumed → at + consumed < 2 ^ 33
+  near got consumed l h e =
+      let w = stepped walk (entryAt limit t at) (sym (ap goingFrom e) ∙ h) in
       omega (arith, entry-inside limit t at (w .shape) (w .seen), step-most walk (w .shape), w .step-is)
 
 pub ruleset entry-laws = (run-past, run-short, run-there)
@@ -58,49 +53,88 @@ pub ruleset entry-laws = (run-past, run-short, run-there)
 pub run-start : (walk : Walk) (limit : ℕ) (t : List ℕ) (at n : ℕ) → runAt walk limit t at n .end ≡ runAt walk limit t at (n - 0) .end
 run-start walk limit t at n = rw sub-zero
 
-pub stop-refused : (got : CurveAnswer) (why : Refusal) → got ≡ CurveAnswer.Refused why → bad (numberOf why) ≡ curveJudged (paper got)
-stop-refused got why e = rw e
-
-pub stop-absent : (got : CurveAnswer) → got ≡ CurveAnswer.Absent → bad 2 ≡ curveJudged (paper got)
-stop-absent got e = rw e
-
--- an answer that is no value ends the run with what it says
-ended-by : (got : CurveAnswer) → OneOf (1 ∷ 2 ∷ []) (placeIn answers.the-type got) → (walk : Walk) (start at : ℕ) (x : Seen) (next : Shape → Ran) → paper got ≡ answerOf walk start x → curveJudged (paper got) ≡ ended (follow at x next .end)
-unfolding ended
-ended-by (CurveAnswer.Value r m) (inl e) walk start at x next h = absurd (omega arith)
-ended-by (CurveAnswer.Value r m) (inr e) walk start at x next h = absurd (omega arith)
-ended-by CurveAnswer.Absent g walk start at x next h = absurd (told-present walk start x h)
-ended-by (CurveAnswer.Refused why) g walk start at x next h = let e = told-no walk start x h in rw e
-
 module _ (walk : Walk) (limit : ℕ) (t : List ℕ) (at n i next : ℕ) (inv : runAt walk limit t at n .end ≡ runAt walk limit t next (n - i) .end) where
   pub run-done : n ≤ i → good ≡ ended (runAt walk limit t at n .end)
   unfolding runAt ended
   run-done m = let e : n - i ≡ 0 = omega arith in sym (ap ended inv ∙ rw e)
 
-  module _ (l : i < n) (got : CurveAnswer) (here : paper got ≡ answerOf walk (next + 12) (entryAt limit t next)) where
+  module _ (l : i < n) (got : Step) (here : goingFrom got ≡ goingOf walk (entryAt limit t next)) where
     less : n - i ≡ suc (n - (i + 1))
     less = omega arith
 
-    pub run-stop : (v : Verdict) → OneOf (1 ∷ 2 ∷ []) (placeIn answers.the-type got) → judgedFrom v ≡ curveJudged (paper got) → judgedFrom v ≡ ended (runAt walk limit t at n .end)
-    unfolding runAt
-    run-stop v k j = j ∙ ended-by got k walk (next + 12) next (entryAt limit t next) (λ s. runAt walk limit t (raised (next + stepOf walk s)) (n - (i + 1))) here ∙ sym (ap ended inv ∙ rw less)
+    -- a refusal ends the run with what it says
+    pub run-stop : (why : Refusal) → got ≡ Step.Refused why → bad (numberOf why) ≡ ended (runAt walk limit t at n .end)
+    unfolding runAt ended
+    run-stop why e =
+        let x = stepped-no walk (entryAt limit t next) (sym (ap goingFrom e) ∙ here) in
+        sym (ap ended inv ∙ rw (less, x))
 
-    pub run-again : (r : CurveRecord) (consumed next′ : ℕ) → got ≡ CurveAnswer.Value r consumed → next′ ≡ raised (next + consumed) → runAt walk limit t at n .end ≡ runAt walk limit t next′ (n - (i + 1)) .end
-    run-again r consumed next′ e f =
-        let w = told walk (next + 12) (entryAt limit t next) (sym (ap paper e) ∙ here) in
+    pub run-again : (consumed next′ : ℕ) → got ≡ Step.On consumed → next′ ≡ raised (next + consumed) → runAt walk limit t at n .end ≡ runAt walk limit t next′ (n - (i + 1)) .end
+    run-again consumed next′ e f =
+        let w = stepped walk (entryAt limit t next) (sym (ap goingFrom e) ∙ here) in
         inv ∙ ap (λ (k : ℕ). runAt walk limit t next k .end) less ∙ ap (λ (r : Ran). r .end) (run-turn walk limit t next (n - (i + 1)) (w .shape) (w .seen)) ∙ ap (λ (x : ℕ). runAt walk limit t (raised (next + x)) (n - (i + 1)) .end) (sym (w .step-is)) ∙ ap (λ (x : ℕ). runAt walk limit t x (n - (i + 1)) .end) (sym f)
 
 -- ---- writing
 
-module _ (walk : Walk) (limit : ℕ) (t : List ℕ) (o n : ℕ) (s₀ s : List ℕ) (at i : ℕ) (w : Writing walk limit t o n s₀ s at i) (l : i < n) (got : CurveAnswer) (here : paper got ≡ answerOf walk (at + 12) (entryAt limit t at)) where
-  pub write-turn : (r : CurveRecord) (consumed at′ : ℕ) (s′ : List ℕ) → got ≡ CurveAnswer.Value r consumed → s′ ≡ sets s (i * recordWords) (words r) → at′ ≡ raised (at + consumed) → Writing walk limit t o n s₀ s′ at′ (i + 1)
-  write-turn r consumed at′ s′ e p f = rw f (turns walk limit t o n s₀ s at i w l (words r) consumed (sym (ap paper e) ∙ here) s′ p)
+module _ (walk : Walk) (limit : ℕ) (t : List ℕ) (o n : ℕ) (s₀ s : List ℕ) (at i : ℕ) (w : Writing walk limit t o n s₀ s at i) (l : i < n) where
+  -- the next curve is there
+  curve-there : at + 12 ≤ length t
+  curve-there = let x = next-is walk limit t o n s₀ s at i w l in entry-there limit t at (x .shape) (x .seen) .0
 
-  pub write-never : OneOf (1 ∷ 2 ∷ []) (placeIn answers.the-type got) → ⊥
-  write-never k = by got refl k
-    where
-      by : (q : CurveAnswer) → got ≡ q → OneOf (1 ∷ 2 ∷ []) (placeIn answers.the-type q) → ⊥
-      by (CurveAnswer.Value r m) e (inl z) = omega arith
-      by (CurveAnswer.Value r m) e (inr z) = omega arith
-      by CurveAnswer.Absent e k = told-present walk (at + 12) (entryAt limit t at) (sym (ap paper e) ∙ here)
-      by (CurveAnswer.Refused why) e k = never walk limit t o n s₀ s at i w l (numberOf why) (sym (ap paper e) ∙ here)
+  pub curve-begins : at ≤ length t
+  curve-begins = omega (arith, curve-there)
+
+  module _ (h : length t < 2 ^ 32) where
+    pub data-fits : at + 12 < 2 ^ 32
+    data-fits = omega (arith, curve-there)
+
+    pub data-counts : at + 12 < 2 ^ 64
+    data-counts = omega (arith, data-fits)
+
+  module _ (room : n * recordWords ≤ length s₀) where
+    pub slot-there : i * recordWords + recordWords ≤ length s
+    slot-there = omega (arith, w .long)
+
+    module _ (slot′ : List ℕ) (got : Step) (went : Went walk (at + 12) (seenIn (take ((i * recordWords + recordWords) - i * recordWords) (drop (i * recordWords) s)) (curveOf limit (take (length t - at) (drop at t)))) got (take ((i * recordWords + recordWords) - i * recordWords) (drop (i * recordWords) s)) slot′) where
+      slot : List ℕ
+      slot = take ((i * recordWords + recordWords) - i * recordWords) (drop (i * recordWords) s)
+
+      slot-length : length slot ≡ recordWords
+      unfolding slot
+      slot-length =
+          let e : (i * recordWords + recordWords) - i * recordWords ≡ recordWords = omega arith in
+          length-take-le _ (drop (i * recordWords) s) (simp length-drop (omega (arith, slot-there))) ∙ e
+
+      -- what is seen in it is the next curve
+      seen-next : seenIn slot (curveOf limit (take (length t - at) (drop at t))) ≡ is (next-is walk limit t o n s₀ s at i w l .shape)
+      unfolding seenIn
+      seen-next =
+          let x = next-is walk limit t o n s₀ s at i w l in
+          let m : recordWords ≤ length slot = omega (arith, slot-length) in
+          rw (le-ltb _ _ m, rest-is t at) (entry-there limit t at (x .shape) (x .seen) .1)
+
+      going : goingFrom got ≡ goingOf walk (is (next-is walk limit t o n s₀ s at i w l .shape))
+      unfolding slot
+      going = went .going-is ∙ ap (goingOf walk) seen-next
+
+      pub write-never : (why : Refusal) → got ≡ Step.Refused why → ⊥
+      unfolding goingOf
+      write-never why e = let k = sym (ap goingFrom e) ∙ going in let z : _≡_ {A = ℕ} 0 1 = cc in omega arith
+
+      module _ (consumed : ℕ) (e : got ≡ Step.On consumed) where
+        step-is : consumed ≡ stepOf walk (next-is walk limit t o n s₀ s at i w l .shape)
+        unfolding goingOf
+        step-is = let k = sym (ap goingFrom e) ∙ going in cc
+
+        pub write-near : length t < 2 ^ 32 → at + consumed < 2 ^ 33
+        write-near m =
+            let x = next-is walk limit t o n s₀ s at i w l in
+            omega (arith, entry-inside limit t at (x .shape) (x .seen), step-most walk (x .shape), step-is)
+
+        pub write-turn : (at′ : ℕ) → at′ ≡ raised (at + consumed) → Writing walk limit t o n s₀ (putMid (i * recordWords) ((i * recordWords + recordWords) - i * recordWords) s slot′) at′ (i + 1)
+        unfolding slot slotWith
+        write-turn at′ f =
+            let x = next-is walk limit t o n s₀ s at i w l in
+            let k : slot′ ≡ sets slot 0 (wordsOf (at + 12) (x .shape)) = went .slot-is ∙ ap (slotWith (at + 12) slot) seen-next in
+            let r = replaced s (wordsOf (at + 12) (x .shape)) slot′ (i * recordWords) (i * recordWords + recordWords) (omega arith) slot-there (words-length (at + 12) (x .shape) ∙ omega arith) k in
+            rw (f, step-is) (turns walk limit t o n s₀ s at i w l _ (x .shape) (x .seen) r)

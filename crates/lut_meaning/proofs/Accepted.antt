@@ -17,11 +17,11 @@ use Rattle.fields.specs.declared.Kind.the-variants.{Mab, Mba}
 use Rattle.fields.proofs.Choice.{each}
 use Rattle.clut.specs.Clut.{Seen, is, no}
 use Rattle.clut.specs.Table.{Table, lengthOf}
+use Rattle.curve.specs.Shape.{recordWords}
 use Rattle.curve.specs.declared.Walk.{Walk}
 use Rattle.mft.specs.Answer.{Fields, State as Mft·State, answerOf}
 use Rattle.mft.specs.Layout.{isMft}
 use Rattle.mft.specs.Mft.{mftOf}
-use Rattle.run.specs.Run.{recordWords}
 use Rattle.lut_meaning.specs.Abm.{tableOf, valueFrom, recordedOf, judgedOf, withTable, abmOf}
 use Rattle.lut_meaning.specs.Answer.{Abm, State, mft, abm, absent, refused, Answer, fromMft, orRefused}
 use Rattle.lut_meaning.specs.Layout.{inputs, outputs, planOf, recordsNeeded}

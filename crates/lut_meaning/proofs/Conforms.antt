@@ -18,7 +18,7 @@ use Rattle.clut.specs.Clut.{is, clutOf}
 use Rattle.clut.specs.Standard.{Within as TableWithin}
 use Rattle.clut.specs.Table.{Table, lengthOf}
 use Rattle.clut.proofs.Conforms.{conforms as table-conforms, accepted as table-accepted}
-use Rattle.curve.specs.Shape.{Shape, stepOf, is as seen}
+use Rattle.curve.specs.Shape.{Shape, stepOf, is as seen, recordWords}
 use Rattle.curve.specs.Standard.{Laid, Within}
 use Rattle.curve.specs.declared.Walk.{Walk}
 use Rattle.curve.specs.declared.Walk.the-variants.{Book}
@@ -27,7 +27,7 @@ use Rattle.curve.proofs.Inside.{curve-inside, size-least, book-step}
 use Rattle.mft.specs.Answer.{Fields, State as Mft·State, answerOf, fieldsOf}
 use Rattle.mft.specs.Standard.{LaidOut as MftLaidOut, Asked as MftAsked}
 use Rattle.mft.proofs.Conforms.{start-least, start-before, type-known, conforms as mft-accepted, Accepted as MftAccepted, accepted as accepted-mft}
-use Rattle.run.specs.Run.{Placed, whole, raised, entryAt, runAt, endOf, recordWords, Each}
+use Rattle.run.specs.Run.{Placed, whole, raised, entryAt, runAt, endOf, Each}
 use Rattle.run.proofs.Runs.{entry-there, Reads, run-reads, reads-run, run-count}
 use Rattle.lut_meaning.specs.Abm.{noTable, tableOf, valueFrom, recordedOf, judgedOf, abmOf}
 use Rattle.lut_meaning.specs.Answer.{Abm, mft, abm, Answer, refuse, fromMft}

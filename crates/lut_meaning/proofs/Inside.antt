@@ -19,10 +19,11 @@ use Rattle.clut.specs.Table.{Table, lengthOf, inGrid, numberOf}
 use Rattle.clut.proofs.Conforms.{accepted as laid-out}
 use Rattle.clut.proofs.Grid.{entry-below}
 use Rattle.clut.proofs.Inside.{inside}
+use Rattle.curve.specs.Shape.{recordWords}
 use Rattle.curve.specs.declared.Walk.{Walk}
 use Rattle.mft.specs.Answer.{Fields}
 use Rattle.mft.proofs.Inside.{Inside as MftInside, inside as inside-mft}
-use Rattle.run.specs.Run.{Placed, endOf, recordWords, recordsOf, dataEnd, Each}
+use Rattle.run.specs.Run.{Placed, endOf, recordsOf, dataEnd, Each}
 use Rattle.run.proofs.Records.{records-end}
 use Rattle.run.proofs.Runs.{run-inside}
 use Rattle.lut_meaning.specs.Abm.{noTable, tableOf, valueFrom, toldTable, abmOf}

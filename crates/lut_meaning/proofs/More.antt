@@ -16,12 +16,13 @@ use Rattle.fields.proofs.Append.{longer, part-append}
 use Rattle.fields.proofs.Grow.{Grows, choose, passes}
 use Rattle.clut.specs.Clut.{Seen, is, no}
 use Rattle.clut.specs.Table.{lengthOf}
+use Rattle.curve.specs.Shape.{recordWords}
 use Rattle.curve.specs.declared.Walk.{Walk}
 use Rattle.mft.specs.Answer.{State as Mft·State, answerOf}
 use Rattle.mft.specs.Layout.{isMft}
 use Rattle.mft.specs.Mft.{mftOf}
 use Rattle.mft.proofs.More.{Is as MftIs, more-limit as mft-limit}
-use Rattle.run.specs.Run.{End, whole, stopped, Ran, runAt, recordWords, recordsOf}
+use Rattle.run.specs.Run.{End, whole, stopped, Ran, runAt, recordsOf}
 use Rattle.run.proofs.Limit.{Over, run-limit}
 use Rattle.lut_meaning.specs.Abm.{tableOf, recordedOf, judgedOf, withTable, abmOf}
 use Rattle.lut_meaning.specs.Answer.{State, mft, abm, absent, refused, Answer, fromMft, orRefused, leftBy}

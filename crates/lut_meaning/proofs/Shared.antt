@@ -10,9 +10,10 @@ use lib.ListN.{length, length-append}
 use Rattle.fields.specs.Bytes.{u32At}
 use Rattle.fields.specs.Tag.{signatureOf}
 use Rattle.fields.specs.declared.Kind.the-variants.{Mab, Mba}
+use Rattle.curve.specs.Shape.{recordWords}
 use Rattle.curve.specs.declared.Walk.{Walk}
 use Rattle.mft.specs.Layout.{isWide, isMft}
-use Rattle.run.specs.Run.{End, whole, stopped, Ran, runAt, recordWords, recordsOf}
+use Rattle.run.specs.Run.{End, whole, stopped, Ran, runAt, recordsOf}
 use Rattle.run.proofs.Runs.{run-count}
 use Rattle.run.proofs.Writing.{records-length, records-append}
 use Rattle.lut_meaning.specs.Judged.{Judged, good, bad, ended, andThen}

@@ -8,11 +8,9 @@ use mathlib.Core.List.{List, [], _∷_, _++_, append-assoc}
 use lib.ListN.{length, drop, length-append}
 use lib.Seq.{sets, sets-eq, length-sets}
 use Rattle.fields.proofs.Stores.{sets-append}
-use Rattle.curve.specs.Answer.{value, refused, answerOf}
-use Rattle.curve.specs.Shape.{Shape, empty, table, para, wordsOf}
+use Rattle.curve.specs.Shape.{Shape, Seen, is, no, empty, table, para, stepOf, recordWords, wordsOf}
 use Rattle.curve.specs.declared.Walk.{Walk}
-use Rattle.curve.proofs.Told.{told, told-no}
-use Rattle.run.specs.Run.{Placed, whole, Ran, placed, first, raised, entryAt, runAt, recordWords, recordsOf}
+use Rattle.run.specs.Run.{Placed, whole, Ran, placed, first, raised, entryAt, runAt, recordsOf}
 use Rattle.run.proofs.Runs.{run-turn, run-count}
 
 -- ---- records
@@ -50,29 +48,40 @@ module _ (walk : Walk) (limit : ℕ) (t : List ℕ) (o n : ℕ) (s₀ : List ℕ
     less : n - i ≡ suc (n - (i + 1))
     less = omega arith
 
-    pub turns : (ws : List ℕ) (consumed : ℕ) → value ws consumed ≡ answerOf walk (at + 12) (entryAt limit t at) → (s′ : List ℕ) → s′ ≡ sets s (i * recordWords) ws → Writing s′ (raised (at + consumed)) (i + 1)
+    -- no refusal is met
+    never : (m : ℕ) → entryAt limit t at ≡ no m → ⊥
+    unfolding runAt
+    never m e =
+        let g : runAt walk limit t at (suc (n - (i + 1))) .end ≡ whole = rw less at (w .good) in
+        let f = rw e at g in
+        let z : _≡_ {A = ℕ} 0 1 = cc in omega arith
+
+    pub record Next : Type 0 where
+      pub shape : Shape
+      pub seen : entryAt limit t at ≡ is shape
+
+    -- a curve is next
+    pub next-is : Next
+    next-is = by (entryAt limit t at) refl
+      where
+        by : (x : Seen) → entryAt limit t at ≡ x → Next
+        by (is s) e = record { shape = s; seen = e }
+        by (no m) e = absurd (never m e)
+
+    pub turns : (s′ : List ℕ) (shape : Shape) → entryAt limit t at ≡ is shape → s′ ≡ sets s (i * recordWords) (wordsOf (at + 12) shape) → Writing s′ (raised (at + stepOf walk shape)) (i + 1)
     unfolding recordsOf
-    turns ws consumed h s′ p =
-        let c = told walk (at + 12) (entryAt limit t at) h in
-        let e : runAt walk limit t at (n - i) ≡ first (placed at (c .shape)) (runAt walk limit t (raised (at + consumed)) (n - (i + 1))) = ap (runAt walk limit t at) less ∙ run-turn walk limit t at (n - (i + 1)) (c .shape) (c .seen) ∙ ap (λ (x : ℕ). first (placed at (c .shape)) (runAt walk limit t (raised (at + x)) (n - (i + 1)))) (sym (c .step-is)) in
-        let k : (i + 1) * recordWords ≡ i * recordWords + length ws = omega (arith, ap length (c .record-is), words-length (at + 12) (c .shape)) in
-        let rest : List ℕ = recordsOf (runAt walk limit t (raised (at + consumed)) (n - (i + 1)) .curves) in
-        let f : recordsOf (runAt walk limit t at (n - i) .curves) ≡ ws ++ rest = ap (λ (r : Ran). recordsOf (r .curves)) e ∙ ap (λ (x : List ℕ). x ++ rest) (sym (c .record-is)) in
+    turns s′ shape seen p =
+        let ws : List ℕ = wordsOf (at + 12) shape in
+        let e : runAt walk limit t at (n - i) ≡ first (placed at shape) (runAt walk limit t (raised (at + stepOf walk shape)) (n - (i + 1))) = ap (runAt walk limit t at) less ∙ run-turn walk limit t at (n - (i + 1)) shape seen in
+        let k : (i + 1) * recordWords ≡ i * recordWords + length ws = omega (arith, words-length (at + 12) shape) in
+        let rest : List ℕ = recordsOf (runAt walk limit t (raised (at + stepOf walk shape)) (n - (i + 1)) .curves) in
+        let f : recordsOf (runAt walk limit t at (n - i) .curves) ≡ ws ++ rest = ap (λ (r : Ran). recordsOf (r .curves)) e in
         record {
           within = omega arith;
           long = ap length p ∙ length-sets s (i * recordWords) ws ∙ w .long;
           good = sym (ap (λ (r : Ran). r .end) e) ∙ w .good;
           left = ap (λ (y : List ℕ). sets y ((i + 1) * recordWords) rest) p ∙ rw (k, ← sets-append ws rest s (i * recordWords), ← f) (w .left);
         }
-
-    -- no refusal is met
-    pub never : (m : ℕ) → refused m ≡ answerOf walk (at + 12) (entryAt limit t at) → ⊥
-    unfolding runAt
-    never m v =
-        let e = told-no walk (at + 12) (entryAt limit t at) v in
-        let g : runAt walk limit t at (suc (n - (i + 1))) .end ≡ whole = rw less at (w .good) in
-        let f = rw e at g in
-        let z : _≡_ {A = ℕ} 0 1 = cc in omega arith
 
   pub ends : (s : List ℕ) (at i : ℕ) → Writing s at i → n ≤ i → n * recordWords ≤ length s₀ → runAt walk limit t o n .end ≡ whole → s ≡ recordsOf (runAt walk limit t o n .curves) ++ drop (n * recordWords) s₀
   unfolding recordsOf runAt

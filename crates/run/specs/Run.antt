@@ -58,10 +58,6 @@ runAt walk limit t at (suc n) = follow at (entryAt limit t at) (λ s. runAt walk
 abbrev pub endOf : Placed → ℕ
 endOf c = c .at + sizeOf (c .shape)
 
--- words of a record
-abbrev pub recordWords : ℕ
-recordWords = 10
-
 -- the records of curves, one behind the other
 unfoldable pub recordsOf : List Placed → List ℕ
 recordsOf [] = []

@@ -10,14 +10,9 @@ read-table-spec =
     tie.close
     (tie.spec
     (λ c κs. search needs)
+    (λ c. search needs)
     (λ c κs. search needs)
     (λ c κs. search needs)
-    (λ c. search (needs, table-laws))
     (λ c. search needs)
     (λ c. search (needs, table-laws))
-    (λ c. search needs)
-    (λ c. search needs)
-    (λ c. search needs)
-    (λ c. search (needs, table-laws))
-    (λ c κs. search needs)
     (λ c. search (needs, table-laws)))

@@ -1,9 +1,10 @@
 -- `lut::nested::write_run` meets its contract: what is left to write makes of the slots what the whole run makes of them.
 -- Assumes nothing.
 use Prim.Native.Nat.{_-_}
+use native.Mathlib.Omega.{arith}
 use borrow.Author.Needs.{needs}
 use Rattle.run.proofs.Writing.{Writing, begins, ends}
-use Rattle.lut.proofs.RunLaws.{near, write-turn, write-never}
+use Rattle.lut.proofs.RunLaws.{curve-begins, data-fits, data-counts, slot-there, write-near, write-turn, write-never}
 use Rattle.lut.proofs.nested.write_run.Statement.{statement}
 use Rattle.lut.proofs.nested.write_run.Tie as tie
 
@@ -20,14 +21,24 @@ write-run-spec =
     Inv-loop
     μ-loop
     (λ c. search (needs, begins))
+    (λ c. search needs)
+    (λ c. search needs)
+    (λ c. search (needs, curve-begins))
+    (λ c. search (needs, curve-begins))
+    (λ c. search needs)
+    (λ c. search (needs, data-counts))
+    (λ c. search (needs, data-fits))
+    (λ c. search (needs, slot-there))
+    (λ c. search (needs, slot-there))
+    (λ c. search (needs, slot-there))
+    (λ c. search (needs, slot-there))
+    (λ c. search (needs, slot-there))
     (λ c κs. search needs)
+    (λ c. search needs)
+    (λ c κs. search (needs, write-near))
     (λ c. search needs)
     (λ c. search needs)
     (λ c. absurd (search (needs, write-never)))
-    (λ c. search needs)
-    (λ c. search needs)
-    (λ c κs. search needs)
-    (λ c κs. search (needs, near))
     (λ c. search needs)
     (λ c. search needs)
     (λ c. search (needs, write-turn))

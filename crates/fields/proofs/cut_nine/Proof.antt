@@ -1,4 +1,4 @@
--- `fields::nine_at` meets its contract: what is left to store makes of the nine the row of words.
+-- `fields::cut_nine` meets its contract: what is left to store makes of the nine the row of words.
 -- Assumes nothing.
 use Prim.Native.Nat.{_-_, _≤_}
 use native.Mathlib.Omega.{arith}
@@ -8,8 +8,8 @@ use lib.Seq.{sets}
 use borrow.Author.Needs.{needs}
 use Rattle.fields.specs.Bytes.{wordsAt}
 use Rattle.fields.proofs.Fills.{words-begin, words-turn, words-end}
-use Rattle.fields.proofs.nine_at.Statement.{statement}
-use Rattle.fields.proofs.nine_at.Tie as tie
+use Rattle.fields.proofs.cut_nine.Statement.{statement}
+use Rattle.fields.proofs.cut_nine.Tie as tie
 
 abbrev Inv-loop : tie.InvT-loop
 Inv-loop s at words₀ i₀ words i =
@@ -18,8 +18,8 @@ Inv-loop s at words₀ i₀ words i =
 abbrev μ-loop : tie.MeasureT-loop
 μ-loop s at words₀ i₀ words i = 9 - i
 
-pub nine-at-spec : {M : Type 1} → statement M
-nine-at-spec =
+pub cut-nine-spec : {M : Type 1} → statement M
+cut-nine-spec =
     tie.close
     (tie.spec
     Inv-loop
