@@ -1,6 +1,1 @@
-pub mod Layout
-pub mod Shape
-pub mod Answer
-pub mod Curve
-pub mod Standard
-pub mod Cases
+pub mod Found

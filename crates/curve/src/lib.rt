@@ -1,4 +1,9 @@
 // The tone curve, `curv` and `para`: read_trc_tag of moxcms.
+pub use curve_meaning::CurveAnswer;
+pub use curve_meaning::CurveRecord;
+pub use curve_meaning::RECORD_WORDS;
+pub use curve_meaning::Step;
+pub use curve_meaning::Walk;
 use fields::Entry;
 use fields::InTag;
 use fields::Kind;
@@ -13,47 +18,11 @@ ghost use lib.ListN.{length, getD};
 ghost use lib.Seq.{sets};
 ghost use Rattle.fields.specs.Bytes.{u32At, wordsAt};
 ghost use Rattle.fields.specs.House.{tagSize};
-ghost use Rattle.curve.specs.Answer.{words, paper, answerOf, goingOf, goingFrom, seenIn, Went, tableFrom, paraFrom};
-ghost use Rattle.curve.specs.Curve.{trcOf, curveOf, tableOf, paraOf, divides};
-ghost use Rattle.curve.specs.Layout.{parameterCount, parametersEnd};
-ghost use Rattle.curve.specs.Shape.{emptyStep, stepOf, tableShape, recordWords, wordsOf};
-
-// The words of a record.
-pub const RECORD_WORDS: usize = 10;
-
-// How a run of curves steps over an empty one: by nothing, as the Rust does, or by its 12 bytes, as the standard lays it out.
-pub enum Walk {
-    Crate,
-    Book,
-}
-
-// A curve: its kind (0 empty, 1 table, 2 + function type), where its data start in the tag, how many entries or parameters it
-// has, and the parameters by their names in the standard, each a signed word in two's complement, those unused 0.
-pub struct CurveRecord {
-    pub kind: u32,
-    pub start: u32,
-    pub count: u32,
-    pub g: u32,
-    pub a: u32,
-    pub b: u32,
-    pub c: u32,
-    pub d: u32,
-    pub e: u32,
-    pub f: u32,
-}
-
-// What a tone-curve reader answers. `consumed` is how far the walk goes on behind the curve.
-pub enum CurveAnswer {
-    Value { curve: CurveRecord, consumed: u64 },
-    Absent,
-    Refused(Refusal),
-}
-
-// How far a walk goes on behind a curve, or why it stops there.
-pub enum Step {
-    On(u64),
-    Refused(Refusal),
-}
+ghost use Rattle.curve_meaning.specs.Answer.{words, paper, answerOf, goingOf, goingFrom, seenIn, Went};
+ghost use Rattle.curve_meaning.specs.Curve.{trcOf, curveOf, tableOf, paraOf, divides};
+ghost use Rattle.curve_meaning.specs.Layout.{parameterCount, parametersEnd};
+ghost use Rattle.curve_meaning.specs.Shape.{emptyStep, stepOf, tableShape, recordWords, wordsOf};
+ghost use Rattle.curve.specs.Found.{tableFrom, paraFrom};
 
 // What a curve's type alone tells: the entries of a table, or the type of a function; or why the curve is refused.
 enum Found {

@@ -9,11 +9,11 @@ use Rattle.fields.specs.Bytes.{u32At}
 use Rattle.fields.specs.Refusals.{numberOf}
 use Rattle.fields.specs.declared.Refusal.{Refusal}
 use Rattle.fields.proofs.Located.{rest-is}
-use Rattle.curve.specs.Answer.{Answer, absent, words, paper}
-use Rattle.curve.specs.Curve.{trcOf}
-use Rattle.curve.specs.declared.CurveAnswer.{CurveAnswer}
-use Rattle.curve.specs.declared.CurveRecord.{CurveRecord}
-use Rattle.curve.specs.declared.Walk.the-variants.{Crate}
+use Rattle.curve_meaning.specs.Answer.{Answer, absent, words, paper}
+use Rattle.curve_meaning.specs.Curve.{trcOf}
+use Rattle.curve_meaning.specs.declared.CurveAnswer.{CurveAnswer}
+use Rattle.curve_meaning.specs.declared.CurveRecord.{CurveRecord}
+use Rattle.curve_meaning.specs.declared.Walk.the-variants.{Crate}
 use Rattle.lines.specs.Text.{Wrote, number, numerals}
 use Rattle.lines.proofs.Writing.{joined}
 use Rattle.curve_text.specs.CurveLine.{answered, badJob, lineFrom, lineOf, recordText, textOf}

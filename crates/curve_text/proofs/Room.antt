@@ -8,11 +8,11 @@ use lib.Dec.{ltb, eqb}
 use lib.ListN.{length, getD, drop, length-append}
 use Rattle.fields.specs.Bytes.{u32At}
 use Rattle.fields.proofs.Choice.{each}
-use Rattle.curve.specs.Answer.{Answer, value, absent, refused}
-use Rattle.curve.specs.Curve.{trcOf}
-use Rattle.curve.specs.Shape.{Shape, empty, table, para, wordsOf}
-use Rattle.curve.specs.declared.Walk.the-variants.{Crate}
-use Rattle.curve.proofs.Inside.{accepted-inside}
+use Rattle.curve_meaning.specs.Answer.{Answer, value, absent, refused}
+use Rattle.curve_meaning.specs.Curve.{trcOf}
+use Rattle.curve_meaning.specs.Shape.{Shape, empty, table, para, wordsOf}
+use Rattle.curve_meaning.specs.declared.Walk.the-variants.{Crate}
+use Rattle.curve_meaning.proofs.Inside.{accepted-inside}
 use Rattle.lines.proofs.Size.{number-size, numerals-size}
 use Rattle.curve_text.specs.CurveLine.{Line, answered, badJob, lineOf, recordText, textOf}
 

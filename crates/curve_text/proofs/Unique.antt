@@ -1,8 +1,8 @@
 -- One job, one answer: what a job comes to is determined by its meaning.
 -- Assumes nothing.
 use mathlib.Core.Path.{_≡_, refl, ap}
-use Rattle.curve.specs.Answer.{paper}
-use Rattle.curve.proofs.Unique.{unique as curve-unique}
+use Rattle.curve_meaning.specs.Answer.{paper}
+use Rattle.curve_meaning.proofs.Unique.{unique as curve-unique}
 use Rattle.curve_text.specs.CurveLine.{Line, lineFrom}
 use Rattle.curve_text.specs.declared.CurveLine.{CurveLine}
 use native.Mathlib.Omega.{arith}

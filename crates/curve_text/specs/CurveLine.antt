@@ -12,9 +12,9 @@ use lib.Dec.{ltb, eqb}
 use lib.ListN.{length, getD, drop}
 use Rattle.fields.specs.Bytes.{u32At}
 use Rattle.fields.specs.House.{houseEntries}
-use Rattle.curve.specs.Answer.{Answer, value, absent, refused, paper}
-use Rattle.curve.specs.Curve.{trcOf}
-use Rattle.curve.specs.declared.Walk.the-variants.{Crate}
+use Rattle.curve_meaning.specs.Answer.{Answer, value, absent, refused, paper}
+use Rattle.curve_meaning.specs.Curve.{trcOf}
+use Rattle.curve_meaning.specs.declared.Walk.the-variants.{Crate}
 use Rattle.lines.specs.Text.{number, numerals}
 use Rattle.curve_text.specs.declared.CurveLine.{CurveLine}
 

@@ -5,7 +5,7 @@ use curve::Walk;
 use fields::Entry;
 use fields::InTag;
 ghost use mathlib.Core.Path.{_≡_};
-ghost use Rattle.curve.specs.Answer.{paper, words as Answer·words};
+ghost use Rattle.curve_meaning.specs.Answer.{paper, words as Answer·words};
 ghost use Rattle.lines.specs.Text.{Wrote};
 ghost use Rattle.curve_text.specs.CurveLine.{answered, lineFrom, lineOf, recordText, textOf};
 

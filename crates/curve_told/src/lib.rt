@@ -1,13 +1,13 @@
 // A tone curve: the walk of a number, and what is told of an answer.
-use curve::CurveAnswer;
-use curve::CurveRecord;
-use curve::Walk;
+use curve_meaning::CurveAnswer;
+use curve_meaning::CurveRecord;
+use curve_meaning::Walk;
 use told::ABSENT;
 use told::VALUE;
 ghost use mathlib.Core.Path.{_≡_};
 ghost use mathlib.Core.List.{[], _∷_, _++_};
 ghost use lib.Seq.{sets};
-ghost use Rattle.curve.specs.Answer.{words, paper};
+ghost use Rattle.curve_meaning.specs.Answer.{words, paper};
 ghost use Rattle.told.specs.Told.{Gave};
 ghost use Rattle.curve_told.specs.Layout.{walkOf, curveTold};
 

@@ -6,11 +6,11 @@ use Rattle.fields.specs.Tag.{signatureOf}
 use Rattle.clut.specs.Cases.{numbersIn}
 use Rattle.clut.specs.Clut.{clutOf, shapeOf, some, partials}
 use Rattle.clut.specs.Table.{product, pointOf}
-use Rattle.curve.specs.Answer.{answerOf}
-use Rattle.curve.specs.Cases.{signedParameters}
-use Rattle.curve.specs.Curve.{trcOf, curveOf, tableOf as curvOf, paraOf, divides}
-use Rattle.curve.specs.Layout.{parameterCount}
-use Rattle.curve.specs.Shape.{sizeOf, stepOf, wordsOf}
+use Rattle.curve_meaning.specs.Answer.{answerOf}
+use Rattle.curve_meaning.specs.Cases.{signedParameters}
+use Rattle.curve_meaning.specs.Curve.{trcOf, curveOf, tableOf as curvOf, paraOf, divides}
+use Rattle.curve_meaning.specs.Layout.{parameterCount}
+use Rattle.curve_meaning.specs.Shape.{sizeOf, stepOf, wordsOf}
 use Rattle.mft.specs.Layout.{isWide, isMft}
 use Rattle.run.specs.Run.{Each, raised, entryAt, runAt, recordsOf}
 use Rattle.lut_meaning.specs.Abm.{tableOf, valueFrom, recordedOf, judgedOf, abmOf}

@@ -7,7 +7,7 @@ use mathlib.Core.List.{List}
 use Rattle.fields.specs.Refusals.{numberOf}
 use Rattle.fields.specs.declared.Refusal.{Refusal}
 use Rattle.fields.specs.declared.Refusal.the-variants.{PastProfile, TagTooShort, OtherLut, GridOverflow, GridZero, GridTooLarge, GridDimension, EntrySize, OtherCurve, TooManyEntries, CurveRunsOut, FunctionType, ZeroDivision, TooFewSlots, BadTable, GridOverLimit, BadChad, LastPoint}
-use Rattle.curve.specs.declared.CurveAnswer.{CurveAnswer}
+use Rattle.curve_meaning.specs.declared.CurveAnswer.{CurveAnswer}
 use Rattle.lut_meaning.specs.Answer.{State, mft, abm, absent as State·absent, refused as State·refused, stateFrom, leftBy as Lut·leftBy}
 use Rattle.lut_meaning.specs.declared.LutAnswer.{LutAnswer}
 use Rattle.small_meaning.specs.declared.ChadAnswer.{ChadAnswer}

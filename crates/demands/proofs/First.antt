@@ -6,10 +6,10 @@ use native.Mathlib.Omega.{arith}
 use mathlib.Core.Path.{_≡_, refl, sym, ap, subst, _∙_}
 use mathlib.Core.List.{List, [], append-nil}
 use lib.ListN.{length}
-use Rattle.curve.specs.Answer.{Answer as Curve·Answer}
-use Rattle.curve.specs.Shape.{Shape, sizeOf, wordsOf}
-use Rattle.curve.specs.declared.Walk.{Walk}
-use Rattle.curve.proofs.Inside.{accepted-inside}
+use Rattle.curve_meaning.specs.Answer.{Answer as Curve·Answer}
+use Rattle.curve_meaning.specs.Shape.{Shape, sizeOf, wordsOf}
+use Rattle.curve_meaning.specs.declared.Walk.{Walk}
+use Rattle.curve_meaning.proofs.Inside.{accepted-inside}
 use Rattle.run.specs.Run.{dataEnd}
 use Rattle.run.proofs.Records.{words-end}
 use Rattle.mft.specs.Answer.{Fields}

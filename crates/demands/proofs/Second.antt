@@ -9,14 +9,14 @@ use lib.Dec.{leb, ltb}
 use lib.ListN.{length}
 use borrow.Author.Tests.{le-ltb}
 use Rattle.clut.specs.Table.{Table}
-use Rattle.curve.specs.Answer.{Answer as Curve·Answer}
-use Rattle.curve.specs.Shape.{Shape, wordsOf, stepOf, recordWords}
-use Rattle.curve.specs.Standard.{Laid as CurveLaid, Within as CurveWithin}
-use Rattle.curve.specs.declared.Walk.{Walk}
-use Rattle.curve.specs.declared.Walk.the-variants.{Book}
-use Rattle.curve.proofs.Conforms.{lone-accepted, laid as curve-laid-out}
-use Rattle.curve.proofs.Inside.{accepted-inside}
-use Rattle.curve.proofs.Unique.{unique as curve-unique}
+use Rattle.curve_meaning.specs.Answer.{Answer as Curve·Answer}
+use Rattle.curve_meaning.specs.Shape.{Shape, wordsOf, stepOf, recordWords}
+use Rattle.curve_meaning.specs.Standard.{Laid as CurveLaid, Within as CurveWithin}
+use Rattle.curve_meaning.specs.declared.Walk.{Walk}
+use Rattle.curve_meaning.specs.declared.Walk.the-variants.{Book}
+use Rattle.curve_meaning.proofs.Conforms.{lone-accepted, laid as curve-laid-out}
+use Rattle.curve_meaning.proofs.Inside.{accepted-inside}
+use Rattle.curve_meaning.proofs.Unique.{unique as curve-unique}
 use Rattle.run.specs.Run.{Placed}
 use Rattle.mft.specs.Answer.{Fields, answerOf, toldTable as Mft·toldTable}
 use Rattle.mft.specs.Standard.{LaidOut as MftLaidOut, Asked as MftAsked}

@@ -9,13 +9,13 @@ use mathlib.Core.Logic.{inl, inr}
 use lib.ListN.{getD, replicate}
 use Rattle.fields.specs.Bytes.{wordsAt}
 use Rattle.fields.specs.Tag.{signatureOf}
-use Rattle.curve.specs.Cases.{none, two}
+use Rattle.curve_meaning.specs.Cases.{none, two}
 use Rattle.clut.specs.Table.{product}
-use Rattle.curve.specs.Curve.{divides}
-use Rattle.curve.specs.Layout.{parameterCount}
-use Rattle.curve.specs.Shape.{empty, table, para, sizeOf, wordsOf}
-use Rattle.curve.specs.Standard.{Laid, Within}
-use Rattle.curve.specs.declared.Walk.the-variants.{Crate, Book}
+use Rattle.curve_meaning.specs.Curve.{divides}
+use Rattle.curve_meaning.specs.Layout.{parameterCount}
+use Rattle.curve_meaning.specs.Shape.{empty, table, para, sizeOf, wordsOf}
+use Rattle.curve_meaning.specs.Standard.{Laid, Within}
+use Rattle.curve_meaning.specs.declared.Walk.the-variants.{Crate, Book}
 use Rattle.run.specs.Run.{Placed, placed, raised, recordsOf, Each}
 use Rattle.lut_meaning.specs.Abm.{noTable, valueFrom}
 use Rattle.lut_meaning.specs.Answer.{State, mft, abm, absent as State·absent, refused as State·refused, stateFrom, Answer as Lut·Answer}

@@ -15,8 +15,8 @@ use Rattle.fields.specs.Tag.{signatureOf}
 use Rattle.fields.specs.declared.Kind.the-variants.{Text, Mluc, Desc}
 use Rattle.fields.proofs.Choice.{each}
 use Rattle.fields.proofs.Grow.{Grows}
-use Rattle.curve.specs.declared.Walk.{Walk}
-use Rattle.curve.proofs.More.{short, more-bytes as curve-bytes, more-limit as curve-limit}
+use Rattle.curve_meaning.specs.declared.Walk.{Walk}
+use Rattle.curve_meaning.proofs.More.{short, more-bytes as curve-bytes, more-limit as curve-limit}
 use Rattle.lut_meaning.specs.Answer.{State, mft, abm, absent as State·absent, refused as State·refused}
 use Rattle.lut_meaning.proofs.Accepted.{IsValue}
 use Rattle.lut_meaning.proofs.More.{more-bytes as lut-bytes, more-limits as lut-limits, more-slots as lut-slots, value-stays as lut-stays}

@@ -7,10 +7,10 @@ use lib.ListN.{replicate}
 use Rattle.fields.specs.House.{houseEntries, housePoints}
 use Rattle.clut.specs.Cases.{tag as clut, cube, numbersIn}
 use Rattle.clut.specs.Clut.{clutOf}
-use Rattle.curve.specs.Answer.{value}
-use Rattle.curve.specs.Cases.{para, none, two, many, signedParameters}
-use Rattle.curve.specs.Curve.{trcOf}
-use Rattle.curve.specs.declared.Walk.the-variants.{Crate, Book}
+use Rattle.curve_meaning.specs.Answer.{value}
+use Rattle.curve_meaning.specs.Cases.{para, none, two, many, signedParameters}
+use Rattle.curve_meaning.specs.Curve.{trcOf}
+use Rattle.curve_meaning.specs.declared.Walk.the-variants.{Crate, Book}
 use Rattle.lut_meaning.specs.Cases.{tag as threeCurves, threeB, plain, slots, emptyAt, straightAt}
 use Rattle.text_meaning.specs.Answer.{mluc}
 use Rattle.text_meaning.specs.Cases.{five, slots as textSlots, recordOf}

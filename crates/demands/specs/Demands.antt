@@ -10,12 +10,12 @@ use lib.ListN.{length, getD, drop}
 use Rattle.fields.specs.Place.{tagAt, countedSize}
 use Rattle.fields.specs.declared.Kind.the-variants.{Sig, Dtim, Meas, View, Xyz, Cicp}
 use Rattle.clut.specs.Table.{Table, inGrid, numberOf, lengthOf}
-use Rattle.curve.specs.Answer.{Answer as Curve·Answer}
-use Rattle.curve.specs.Curve.{tagOf as Curve·tagOf}
-use Rattle.curve.specs.Shape.{Shape, wordsOf, stepOf, recordWords}
-use Rattle.curve.specs.Standard.{Laid as CurveLaid, Within as CurveWithin}
-use Rattle.curve.specs.declared.Walk.{Walk}
-use Rattle.curve.specs.declared.Walk.the-variants.{Book}
+use Rattle.curve_meaning.specs.Answer.{Answer as Curve·Answer}
+use Rattle.curve_meaning.specs.Curve.{tagOf as Curve·tagOf}
+use Rattle.curve_meaning.specs.Shape.{Shape, wordsOf, stepOf, recordWords}
+use Rattle.curve_meaning.specs.Standard.{Laid as CurveLaid, Within as CurveWithin}
+use Rattle.curve_meaning.specs.declared.Walk.{Walk}
+use Rattle.curve_meaning.specs.declared.Walk.the-variants.{Book}
 use Rattle.run.specs.Run.{Placed, recordsOf, dataEnd}
 use Rattle.mft.specs.Answer.{Fields, fieldsOf, toldTable as Mft·toldTable}
 use Rattle.mft.specs.Layout.{matrixOf as Mft·matrixOf}

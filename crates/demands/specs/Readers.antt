@@ -3,10 +3,10 @@ use Prim.Native.Nat.{ℕ}
 use mathlib.Core.Path.{_≡_}
 use mathlib.Core.List.{List}
 use lib.ListN.{length}
-use Rattle.curve.specs.Answer.{Answer as Curve·Answer, paper as Curve·paper}
-use Rattle.curve.specs.Curve.{trcOf}
-use Rattle.curve.specs.declared.CurveAnswer.{CurveAnswer}
-use Rattle.curve.specs.declared.Walk.{Walk}
+use Rattle.curve_meaning.specs.Answer.{Answer as Curve·Answer, paper as Curve·paper}
+use Rattle.curve_meaning.specs.Curve.{trcOf}
+use Rattle.curve_meaning.specs.declared.CurveAnswer.{CurveAnswer}
+use Rattle.curve_meaning.specs.declared.Walk.{Walk}
 use Rattle.lut_meaning.specs.Answer.{State, Answer as Lut·Answer, paper as Lut·paper}
 use Rattle.lut_meaning.specs.Lut.{lutOf, leftOf as Lut·leftOf}
 use Rattle.lut_meaning.specs.declared.Lut.{Lut}

@@ -4,9 +4,9 @@ use mathlib.Core.List.{List, [], _++_}
 use lib.ListN.{length, take, drop, replicate}
 use Rattle.fields.specs.declared.Refusal.{Refusal}
 use Rattle.fields.specs.declared.Refusal.the-variants.{PastProfile}
-use Rattle.curve.specs.Shape.{recordWords}
-use Rattle.curve.specs.declared.CurveAnswer.{CurveAnswer}
-use Rattle.curve.specs.declared.Walk.{Walk}
+use Rattle.curve_meaning.specs.Shape.{recordWords}
+use Rattle.curve_meaning.specs.declared.CurveAnswer.{CurveAnswer}
+use Rattle.curve_meaning.specs.declared.Walk.{Walk}
 use Rattle.run.specs.Run.{recordsOf}
 use Rattle.lut_meaning.specs.Layout.{planOf, recordsNeeded}
 use Rattle.lut_meaning.specs.Parts.{curvesOf}

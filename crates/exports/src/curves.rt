@@ -1,7 +1,7 @@
 // The tone curve.
 use crate::NO_ROOM;
 use fields::Entry;
-ghost use Rattle.curve.specs.Curve.{trcOf};
+ghost use Rattle.curve_meaning.specs.Curve.{trcOf};
 ghost use Rattle.told.specs.Told.{within, Gave};
 ghost use Rattle.curve_told.specs.Layout.{walkOf, curveTold};
 

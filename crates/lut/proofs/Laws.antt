@@ -22,8 +22,8 @@ use Rattle.clut.specs.Clut.{Seen, is, no, clutOf}
 use Rattle.clut.specs.Table.{product, lengthOf}
 use Rattle.clut.specs.declared.ClutAnswer.{ClutAnswer}
 use Rattle.clut.specs.declared.ColourTable.{ColourTable}
-use Rattle.curve.specs.Shape.{recordWords}
-use Rattle.curve.specs.declared.Walk.{Walk}
+use Rattle.curve_meaning.specs.Shape.{recordWords}
+use Rattle.curve_meaning.specs.declared.Walk.{Walk}
 use Rattle.mft.specs.Answer.{State as Mft·State, fieldsFrom, answerOf, paper as Mft·paper}
 use Rattle.mft.specs.Layout.{isMft}
 use Rattle.mft.specs.Mft.{mftOf}

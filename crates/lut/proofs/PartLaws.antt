@@ -13,8 +13,8 @@ use borrow.Author.Tests.{eq-eqb, ne-eqb, lt-ltb, le-ltb}
 use borrow.Rule.Slice.PartMut.{putMid}
 use Rattle.fields.specs.Bytes.{u32At, bytesAt, wordsAt}
 use Rattle.fields.proofs.Stores.{sets-append, front, rejoined}
-use Rattle.curve.specs.Shape.{recordWords}
-use Rattle.curve.specs.declared.Walk.{Walk}
+use Rattle.curve_meaning.specs.Shape.{recordWords}
+use Rattle.curve_meaning.specs.declared.Walk.{Walk}
 use Rattle.run.specs.Run.{recordsOf}
 use Rattle.lut_meaning.specs.Layout.{toPcs, deviceChannels, spaceChannels, present, Few, aCurves, mCurves, bCurves, planOf, Planned, identity, matrixOf, biasOf, gridOf}
 use Rattle.lut_meaning.specs.Parts.{runA, runM, runB, runsJudged, curvesOf, matrixJudged}

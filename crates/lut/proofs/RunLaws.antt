@@ -13,13 +13,13 @@ use Rattle.fields.specs.Refusals.{numberOf}
 use Rattle.fields.specs.declared.Refusal.{Refusal}
 use Rattle.fields.proofs.Located.{rest-is}
 use Rattle.fields.proofs.Stores.{replaced}
-use Rattle.curve.specs.Answer.{Going, stop, goingOf, goingFrom, slotWith, seenIn, Went}
-use Rattle.curve.specs.Curve.{curveOf}
-use Rattle.curve.specs.Shape.{Seen, is, stepOf, recordWords, wordsOf}
-use Rattle.curve.specs.declared.Step.{Step}
-use Rattle.curve.specs.declared.Walk.{Walk}
-use Rattle.curve.proofs.Inside.{step-most}
-use Rattle.curve.proofs.Told.{stepped, stepped-no}
+use Rattle.curve_meaning.specs.Answer.{Going, stop, goingOf, goingFrom, slotWith, seenIn, Went}
+use Rattle.curve_meaning.specs.Curve.{curveOf}
+use Rattle.curve_meaning.specs.Shape.{Seen, is, stepOf, recordWords, wordsOf}
+use Rattle.curve_meaning.specs.declared.Step.{Step}
+use Rattle.curve_meaning.specs.declared.Walk.{Walk}
+use Rattle.curve_meaning.proofs.Inside.{step-most}
+use Rattle.curve_meaning.proofs.Told.{stepped, stepped-no}
 use Rattle.run.specs.Run.{Ran, raised, entryAt, runAt}
 use Rattle.run.proofs.Runs.{entry-there, entry-inside, run-turn}
 use Rattle.run.proofs.Writing.{Writing, words-length, next-is, turns}

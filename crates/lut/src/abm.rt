@@ -21,7 +21,7 @@ ghost use lib.Dec.{ltb};
 ghost use lib.ListN.{length, drop};
 ghost use Rattle.clut.specs.Answer.{paper as Clut·paper, toldOf};
 ghost use Rattle.fields.specs.Bytes.{bytesAt};
-ghost use Rattle.curve.specs.Shape.{recordWords};
+ghost use Rattle.curve_meaning.specs.Shape.{recordWords};
 ghost use Rattle.run.specs.Run.{recordsOf};
 ghost use Rattle.lut_meaning.specs.Abm.{tableOf, valueFrom, recordedOf, judgedOf, withTable, abmOf};
 ghost use Rattle.lut_meaning.specs.Lut.{Said};

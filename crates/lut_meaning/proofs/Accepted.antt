@@ -17,8 +17,8 @@ use Rattle.fields.specs.declared.Kind.the-variants.{Mab, Mba}
 use Rattle.fields.proofs.Choice.{each}
 use Rattle.clut.specs.Clut.{Seen, is, no}
 use Rattle.clut.specs.Table.{Table, lengthOf}
-use Rattle.curve.specs.Shape.{recordWords}
-use Rattle.curve.specs.declared.Walk.{Walk}
+use Rattle.curve_meaning.specs.Shape.{recordWords}
+use Rattle.curve_meaning.specs.declared.Walk.{Walk}
 use Rattle.mft.specs.Answer.{Fields, State as Mft·State, answerOf}
 use Rattle.mft.specs.Layout.{isMft}
 use Rattle.mft.specs.Mft.{mftOf}

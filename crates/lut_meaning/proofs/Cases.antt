@@ -4,9 +4,9 @@ use mathlib.Core.Path.{refl}
 use Rattle.fields.specs.Bytes.{bytesAt, wordsAt}
 use Rattle.fields.specs.Tag.{signatureOf}
 use Rattle.clut.specs.Table.{product}
-use Rattle.curve.specs.Curve.{curveOf, tableOf as curvOf, paraOf, divides}
-use Rattle.curve.specs.Layout.{parameterCount}
-use Rattle.curve.specs.Shape.{sizeOf, stepOf, wordsOf}
+use Rattle.curve_meaning.specs.Curve.{curveOf, tableOf as curvOf, paraOf, divides}
+use Rattle.curve_meaning.specs.Layout.{parameterCount}
+use Rattle.curve_meaning.specs.Shape.{sizeOf, stepOf, wordsOf}
 use Rattle.mft.specs.Layout.{isWide, isMft}
 use Rattle.run.specs.Run.{raised, entryAt, runAt, recordsOf}
 use Rattle.lut_meaning.specs.Abm.{tableOf, valueFrom, recordedOf, judgedOf, abmOf}

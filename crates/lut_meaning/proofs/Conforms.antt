@@ -18,12 +18,12 @@ use Rattle.clut.specs.Clut.{is, clutOf}
 use Rattle.clut.specs.Standard.{Within as TableWithin}
 use Rattle.clut.specs.Table.{Table, lengthOf}
 use Rattle.clut.proofs.Conforms.{conforms as table-conforms, accepted as table-accepted}
-use Rattle.curve.specs.Shape.{Shape, stepOf, is as seen, recordWords}
-use Rattle.curve.specs.Standard.{Laid, Within}
-use Rattle.curve.specs.declared.Walk.{Walk}
-use Rattle.curve.specs.declared.Walk.the-variants.{Book}
-use Rattle.curve.proofs.Conforms.{accepted as curve-accepted, laid as curve-laid}
-use Rattle.curve.proofs.Inside.{curve-inside, size-least, book-step}
+use Rattle.curve_meaning.specs.Shape.{Shape, stepOf, is as seen, recordWords}
+use Rattle.curve_meaning.specs.Standard.{Laid, Within}
+use Rattle.curve_meaning.specs.declared.Walk.{Walk}
+use Rattle.curve_meaning.specs.declared.Walk.the-variants.{Book}
+use Rattle.curve_meaning.proofs.Conforms.{accepted as curve-accepted, laid as curve-laid}
+use Rattle.curve_meaning.proofs.Inside.{curve-inside, size-least, book-step}
 use Rattle.mft.specs.Answer.{Fields, State as Mft·State, answerOf, fieldsOf}
 use Rattle.mft.specs.Standard.{LaidOut as MftLaidOut, Asked as MftAsked}
 use Rattle.mft.proofs.Conforms.{start-least, start-before, type-known, conforms as mft-accepted, Accepted as MftAccepted, accepted as accepted-mft}

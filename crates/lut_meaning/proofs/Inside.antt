@@ -19,8 +19,8 @@ use Rattle.clut.specs.Table.{Table, lengthOf, inGrid, numberOf}
 use Rattle.clut.proofs.Conforms.{accepted as laid-out}
 use Rattle.clut.proofs.Grid.{entry-below}
 use Rattle.clut.proofs.Inside.{inside}
-use Rattle.curve.specs.Shape.{recordWords}
-use Rattle.curve.specs.declared.Walk.{Walk}
+use Rattle.curve_meaning.specs.Shape.{recordWords}
+use Rattle.curve_meaning.specs.declared.Walk.{Walk}
 use Rattle.mft.specs.Answer.{Fields}
 use Rattle.mft.proofs.Inside.{Inside as MftInside, inside as inside-mft}
 use Rattle.run.specs.Run.{Placed, endOf, recordsOf, dataEnd, Each}

@@ -10,8 +10,8 @@ use lib.ListN.{length, length-append}
 use Rattle.fields.specs.Bytes.{u32At}
 use Rattle.fields.specs.Tag.{signatureOf}
 use Rattle.fields.specs.declared.Kind.the-variants.{Mab, Mba}
-use Rattle.curve.specs.Shape.{recordWords}
-use Rattle.curve.specs.declared.Walk.{Walk}
+use Rattle.curve_meaning.specs.Shape.{recordWords}
+use Rattle.curve_meaning.specs.declared.Walk.{Walk}
 use Rattle.mft.specs.Layout.{isWide, isMft}
 use Rattle.run.specs.Run.{End, whole, stopped, Ran, runAt, recordsOf}
 use Rattle.run.proofs.Runs.{run-count}

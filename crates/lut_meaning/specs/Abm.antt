@@ -6,8 +6,8 @@ use lib.Dec.{ltb, eqb}
 use lib.ListN.{take}
 use Rattle.clut.specs.Clut.{Seen, is, no, clutOf}
 use Rattle.clut.specs.Table.{Table, lengthOf}
-use Rattle.curve.specs.Shape.{recordWords}
-use Rattle.curve.specs.declared.Walk.{Walk}
+use Rattle.curve_meaning.specs.Shape.{recordWords}
+use Rattle.curve_meaning.specs.declared.Walk.{Walk}
 use Rattle.lut_meaning.specs.Answer.{Abm, abm, Answer, none, refuse, orRefused}
 use Rattle.lut_meaning.specs.Layout.{toPcs, inputs, outputs, clutOffset, aCurves, mCurves, bCurves, planOf, recordsNeeded, gridOf, matrixOf, biasOf}
 use Rattle.lut_meaning.specs.Parts.{runsJudged, matrixJudged}

@@ -9,7 +9,7 @@ use Rattle.fields.specs.Bytes.{u32At}
 use Rattle.fields.specs.Place.{tagAt, countedSize}
 use Rattle.fields.specs.Tag.{signatureOf}
 use Rattle.fields.specs.declared.Kind.the-variants.{Mab, Mba}
-use Rattle.curve.specs.declared.Walk.{Walk}
+use Rattle.curve_meaning.specs.declared.Walk.{Walk}
 use Rattle.mft.specs.Answer.{answerOf}
 use Rattle.mft.specs.Layout.{isMft}
 use Rattle.mft.specs.Mft.{mftOf}

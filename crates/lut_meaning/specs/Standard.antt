@@ -11,7 +11,7 @@ use Rattle.clut.specs.Table.{Table}
 use Rattle.fields.specs.Bytes.{u32At}
 use Rattle.fields.specs.Tag.{signatureOf}
 use Rattle.fields.specs.declared.Kind.the-variants.{Mab, Mba}
-use Rattle.curve.specs.Standard.{Laid, Within}
+use Rattle.curve_meaning.specs.Standard.{Laid, Within}
 use Rattle.run.specs.Run.{Placed, raised, endOf, Each}
 use Rattle.lut_meaning.specs.Abm.{noTable}
 use Rattle.lut_meaning.specs.Layout.{inputs, outputs, aOffset, mOffset, bOffset, matrixOffset, clutOffset, aCurves, mCurves, bCurves}

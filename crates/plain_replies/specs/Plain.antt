@@ -5,10 +5,10 @@ use mathlib.Core.List.{List, [], _++_}
 use lib.Dec.{eqb}
 use lib.ListN.{take, drop}
 use Rattle.lines.specs.Text.{number, numerals, numbers}
-use Rattle.curve.specs.Answer.{Answer as Curve·Answer}
-use Rattle.curve.specs.Curve.{trcOf}
-use Rattle.curve.specs.declared.Walk.{Walk}
-use Rattle.curve.specs.declared.Walk.the-variants.{Crate, Book}
+use Rattle.curve_meaning.specs.Answer.{Answer as Curve·Answer}
+use Rattle.curve_meaning.specs.Curve.{trcOf}
+use Rattle.curve_meaning.specs.declared.Walk.{Walk}
+use Rattle.curve_meaning.specs.declared.Walk.the-variants.{Crate, Book}
 use Rattle.small_meaning.specs.Answer.{Answer as Small·Answer}
 use Rattle.small_meaning.specs.Small.{chadOf, sigOf, dateOf, measOf, viewOf, xyzOf, cicpOf}
 use Rattle.curve_text.specs.CurveLine.{recordText}

@@ -3,7 +3,7 @@ use curve::CurveAnswer;
 use curve::Walk;
 use fields::Entry;
 use jobs::StreamJob;
-ghost use Rattle.curve.specs.Curve.{trcOf};
+ghost use Rattle.curve_meaning.specs.Curve.{trcOf};
 ghost use Rattle.lines.specs.Text.{Wrote};
 ghost use Rattle.plain_replies.specs.Plain.{curveText};
 

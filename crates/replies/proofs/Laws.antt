@@ -16,8 +16,8 @@ use Rattle.fields.proofs.Located.{inside, past, part-is}
 use Rattle.fields.proofs.Stores.{fill-begins, fill-turns, fill-ends}
 use Rattle.lines.specs.Text.{Wrote}
 use Rattle.lines.proofs.Writing.{joined, nothing}
-use Rattle.curve.specs.declared.Walk.{Walk}
-use Rattle.curve.specs.declared.Walk.the-variants.{Crate, Book}
+use Rattle.curve_meaning.specs.declared.Walk.{Walk}
+use Rattle.curve_meaning.specs.declared.Walk.the-variants.{Crate, Book}
 use Rattle.lut_meaning.specs.Answer.{refuse, stateFrom, paper}
 use Rattle.lut_meaning.specs.Lut.{tagOf, lutOf, Said as Lut·Said}
 use Rattle.lut_meaning.specs.declared.Lut.{Lut}

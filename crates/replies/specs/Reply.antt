@@ -6,8 +6,8 @@ use mathlib.Core.List.{List, [], _∷_, _++_}
 use lib.Dec.{eqb}
 use lib.ListN.{length, take, drop}
 use Rattle.lines.specs.Text.{Wrote}
-use Rattle.curve.specs.declared.Walk.{Walk}
-use Rattle.curve.specs.declared.Walk.the-variants.{Crate, Book}
+use Rattle.curve_meaning.specs.declared.Walk.{Walk}
+use Rattle.curve_meaning.specs.declared.Walk.the-variants.{Crate, Book}
 use Rattle.lut_meaning.specs.Answer.{State, Answer}
 use Rattle.lut_meaning.specs.Lut.{tagOf, lutOf, leftOf}
 use Rattle.text_meaning.specs.Text.{stringOf, leftOf as Text·leftOf}

@@ -3,7 +3,7 @@ mod tables;
 mod texts;
 mod told;
 
-use curve::Walk;
+use curve_meaning::Walk;
 use jobs::StreamIndex;
 use jobs::StreamJob;
 use jobs::StreamTail;

@@ -1,6 +1,6 @@
 // Readers 1 and 11: lookup tables, with the lent words behind each answer; and reader 13, one entry of a table.
 use crate::told;
-use curve::Walk;
+use curve_meaning::Walk;
 use fields::Entry;
 use fields::InTag;
 use fields::Place;

@@ -8,9 +8,9 @@ use mathlib.Core.Logic.{inl, inr}
 use lib.Dec.{ltb}
 use lib.ListN.{length, drop}
 use Rattle.fields.proofs.Grow.{Grows, choose}
-use Rattle.curve.specs.Shape.{Shape, is, no, stepOf}
-use Rattle.curve.specs.declared.Walk.{Walk}
-use Rattle.curve.proofs.More.{No, curve-limit}
+use Rattle.curve_meaning.specs.Shape.{Shape, is, no, stepOf}
+use Rattle.curve_meaning.specs.declared.Walk.{Walk}
+use Rattle.curve_meaning.proofs.More.{No, curve-limit}
 use Rattle.run.specs.Run.{stopped, Ran, placed, stops, first, raised, entryAt, runAt}
 use Rattle.run.proofs.Runs.{run-induct}
 

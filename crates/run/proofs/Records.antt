@@ -7,7 +7,7 @@ use mathlib.Core.List.{List, [], _∷_, _++_, append-assoc}
 use lib.ListN.{length, drop}
 use lib.Seq.{drop-drop, drop-at}
 use borrow.Author.Tests.{ne-eqb}
-use Rattle.curve.specs.Shape.{Shape, empty, table, para, sizeOf, wordsOf, recordWords}
+use Rattle.curve_meaning.specs.Shape.{Shape, empty, table, para, sizeOf, wordsOf, recordWords}
 use Rattle.run.specs.Run.{Placed, endOf, recordsOf, dataEnd, Each}
 use Rattle.run.proofs.Writing.{words-length}
 

@@ -8,10 +8,10 @@ use mathlib.Core.List.{List, [], _∷_}
 use lib.Dec.{ltb}
 use lib.ListN.{length, drop, length-drop}
 use borrow.Author.Tests.{ltb-false}
-use Rattle.curve.specs.Curve.{curveOf}
-use Rattle.curve.specs.Shape.{Shape, Seen, is, no, sizeOf, stepOf}
-use Rattle.curve.specs.declared.Walk.{Walk}
-use Rattle.curve.proofs.Inside.{curve-inside}
+use Rattle.curve_meaning.specs.Curve.{curveOf}
+use Rattle.curve_meaning.specs.Shape.{Shape, Seen, is, no, sizeOf, stepOf}
+use Rattle.curve_meaning.specs.declared.Walk.{Walk}
+use Rattle.curve_meaning.proofs.Inside.{curve-inside}
 use Rattle.run.specs.Run.{Placed, whole, Ran, placed, done, stops, first, raised, entryAt, follow, runAt, endOf, Each}
 
 -- a curve that is seen at an offset of the tag is what the bytes there say, and 12 of them there are

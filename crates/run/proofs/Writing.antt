@@ -8,8 +8,8 @@ use mathlib.Core.List.{List, [], _∷_, _++_, append-assoc}
 use lib.ListN.{length, drop, length-append}
 use lib.Seq.{sets, sets-eq, length-sets}
 use Rattle.fields.proofs.Stores.{sets-append}
-use Rattle.curve.specs.Shape.{Shape, Seen, is, no, empty, table, para, stepOf, recordWords, wordsOf}
-use Rattle.curve.specs.declared.Walk.{Walk}
+use Rattle.curve_meaning.specs.Shape.{Shape, Seen, is, no, empty, table, para, stepOf, recordWords, wordsOf}
+use Rattle.curve_meaning.specs.declared.Walk.{Walk}
 use Rattle.run.specs.Run.{Placed, whole, Ran, placed, first, raised, entryAt, runAt, recordsOf}
 use Rattle.run.proofs.Runs.{run-turn, run-count}
 

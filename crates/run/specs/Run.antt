@@ -5,9 +5,9 @@ use mathlib.Core.List.{List, [], _∷_, _++_}
 use lib.Dec.{ltb, eqb}
 use lib.ListN.{length, getD, drop}
 use Rattle.fields.specs.House.{tagSize}
-use Rattle.curve.specs.Curve.{curveOf}
-use Rattle.curve.specs.Shape.{Shape, Seen, is, no, sizeOf, stepOf, wordsOf}
-use Rattle.curve.specs.declared.Walk.{Walk}
+use Rattle.curve_meaning.specs.Curve.{curveOf}
+use Rattle.curve_meaning.specs.Shape.{Shape, Seen, is, no, sizeOf, stepOf, wordsOf}
+use Rattle.curve_meaning.specs.declared.Walk.{Walk}
 
 -- a curve and its offset in the tag
 pub record Placed : Type 0 where

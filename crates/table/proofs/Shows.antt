@@ -17,7 +17,7 @@ use Rattle.fields.proofs.Words.{bytes-part}
 use Rattle.clut.specs.Clut.{is, clutOf}
 use Rattle.clut.specs.Table.{Table, lengthOf, inGrid, pointOf, numberOf}
 use Rattle.clut.proofs.Conforms.{Accepted, accepted}
-use Rattle.curve.specs.declared.Walk.{Walk}
+use Rattle.curve_meaning.specs.declared.Walk.{Walk}
 use Rattle.mft.specs.Answer.{Fields, fieldsOf, toldTable as Mft·toldTable}
 use Rattle.mft.specs.Layout.{isWide, entrySize}
 use Rattle.mft.proofs.Conforms.{accepted as Mft·accepted}

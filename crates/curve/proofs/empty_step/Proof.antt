@@ -1,6 +1,6 @@
 -- `curve::empty_step` meets its contract: an empty curve has its 12 bytes.
 -- Assumes nothing.
-use Rattle.curve.specs.Shape.{sizeOf}
+use Rattle.curve_meaning.specs.Shape.{sizeOf}
 use borrow.Author.Needs.{needs}
 use Rattle.curve.proofs.empty_step.Statement.{statement}
 use Rattle.curve.proofs.empty_step.Tie as tie

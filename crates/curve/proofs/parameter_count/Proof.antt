@@ -5,7 +5,7 @@ use native.Mathlib.Omega.{arith}
 use mathlib.Core.Path.{_≡_, sym, ap}
 use lib.ListN.{List·getD-eq-default}
 use borrow.Author.Needs.{needs}
-use Rattle.curve.specs.Layout.{row, parameterCount}
+use Rattle.curve_meaning.specs.Layout.{row, parameterCount}
 use Rattle.curve.proofs.parameter_count.Statement.{statement}
 use Rattle.curve.proofs.parameter_count.Tie as tie
 

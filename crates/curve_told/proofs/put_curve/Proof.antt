@@ -2,7 +2,7 @@
 -- Assumes nothing.
 use mathlib.Core.Path.{refl}
 use mathlib.Core.List.{[], _∷_}
-use Rattle.curve.specs.Answer.{words}
+use Rattle.curve_meaning.specs.Answer.{words}
 use Rattle.told.proofs.Putting.{two-rows}
 use borrow.Author.Needs.{needs}
 use Rattle.curve_told.proofs.put_curve.Statement.{statement}

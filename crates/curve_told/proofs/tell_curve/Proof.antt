@@ -1,8 +1,8 @@
 -- `curve_told::tell_curve` meets its contract: the words are the answer's, or the status tells why there are none.
 -- Assumes nothing.
 use mathlib.Core.Path.{refl}
-use Rattle.curve.specs.Answer.{paper}
-use Rattle.curve.specs.declared.CurveAnswer.{CurveAnswer}
+use Rattle.curve_meaning.specs.Answer.{paper}
+use Rattle.curve_meaning.specs.declared.CurveAnswer.{CurveAnswer}
 use Rattle.curve_told.specs.Layout.{curveTold}
 use Rattle.told.proofs.Telling.{tells}
 use borrow.Author.Needs.{needs}

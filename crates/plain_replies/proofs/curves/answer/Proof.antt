@@ -1,7 +1,7 @@
 -- `plain_replies::curves::answer` meets its contract: each arm writes the text of its answer.
 -- Assumes nothing.
 use borrow.Author.Needs.{needs}
-use Rattle.curve.specs.Answer.{paper}
+use Rattle.curve_meaning.specs.Answer.{paper}
 use Rattle.lines.proofs.Writing.{joined}
 use Rattle.plain_replies.specs.Plain.{curveText}
 use Rattle.plain_replies.proofs.Laws.{arm}

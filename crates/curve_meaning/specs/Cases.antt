@@ -5,10 +5,10 @@ use mathlib.Core.List.{List, [], _∷_, _++_, map}
 use lib.IntN.{ℤ, pos, negsuc}
 use lib.ListN.{drop}
 use Rattle.fields.specs.Bytes.{signed}
-use Rattle.curve.specs.Answer.{Answer, value, absent, refused}
-use Rattle.curve.specs.Curve.{trcOf}
-use Rattle.curve.specs.declared.Walk.{Walk}
-use Rattle.curve.specs.declared.Walk.the-variants.{Crate, Book}
+use Rattle.curve_meaning.specs.Answer.{Answer, value, absent, refused}
+use Rattle.curve_meaning.specs.Curve.{trcOf}
+use Rattle.curve_meaning.specs.declared.Walk.{Walk}
+use Rattle.curve_meaning.specs.declared.Walk.the-variants.{Crate, Book}
 
 pub data Case : Type 0 where
   -- walk, limit, profile and size, and the answer

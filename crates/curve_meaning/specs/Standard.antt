@@ -4,9 +4,9 @@ use mathlib.Core.Path.{_≡_}
 use mathlib.Core.Bool.{true}
 use mathlib.Core.List.{List}
 use lib.ListN.{getD}
-use Rattle.curve.specs.Curve.{divides}
-use Rattle.curve.specs.Layout.{CurveType, CurveReserved, ParametricCurveType, ParametricReserved}
-use Rattle.curve.specs.Shape.{Shape, empty, table, para}
+use Rattle.curve_meaning.specs.Curve.{divides}
+use Rattle.curve_meaning.specs.Layout.{CurveType, CurveReserved, ParametricCurveType, ParametricReserved}
+use Rattle.curve_meaning.specs.Shape.{Shape, empty, table, para}
 
 -- the bytes t begin with the curve, its reserved bytes aside. A table of one entry is an exponent by the standard
 unfoldable pub Laid : List ℕ → Shape → Type 0

@@ -6,15 +6,12 @@ use mathlib.Core.List.{List, [], _∷_}
 use lib.Dec.{ltb}
 use lib.ListN.{length}
 use lib.Seq.{sets}
-use Rattle.fields.specs.Bytes.{wordsAt}
 use Rattle.fields.specs.Refusals.{numberOf}
-use Rattle.curve.specs.Layout.{parameterCount}
-use Rattle.curve.specs.Shape.{Seen, is, no, para, tableShape, recordWords, wordsOf, stepOf}
-use Rattle.curve.specs.declared.CurveRecord.{CurveRecord}
-use Rattle.curve.specs.declared.CurveAnswer.{CurveAnswer}
-use Rattle.curve.specs.declared.Found.{Found}
-use Rattle.curve.specs.declared.Step.{Step}
-use Rattle.curve.specs.declared.Walk.{Walk}
+use Rattle.curve_meaning.specs.Shape.{Seen, is, no, recordWords, wordsOf, stepOf}
+use Rattle.curve_meaning.specs.declared.CurveRecord.{CurveRecord}
+use Rattle.curve_meaning.specs.declared.CurveAnswer.{CurveAnswer}
+use Rattle.curve_meaning.specs.declared.Step.{Step}
+use Rattle.curve_meaning.specs.declared.Walk.{Walk}
 
 -- the words of the record and the consumed size; an absence; the number of a refusal
 pub data Answer : Type 0 where
@@ -63,12 +60,3 @@ seenIn slot x = cond (ltb (length slot) recordWords) (no 14) x
 pub record Went (walk : Walk) (start : ℕ) (x : Seen) (r : Step) (slot slot' : List ℕ) : Type 0 where
   pub going-is : goingFrom r ≡ goingOf walk x
   pub slot-is : slot' ≡ slotWith start slot x
-
--- what a `curv` is by its entries, and a `para` t by its function type
-abbrev pub tableFrom : Found → Seen
-tableFrom (Found.Number n) = is (tableShape n)
-tableFrom (Found.Refused why) = no (numberOf why)
-
-abbrev pub paraFrom : List ℕ → Found → Seen
-paraFrom t (Found.Number type) = is (para type (wordsAt t 12 (parameterCount type)))
-paraFrom t (Found.Refused why) = no (numberOf why)

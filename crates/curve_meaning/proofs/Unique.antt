@@ -6,9 +6,9 @@ use Prim.Native.Nat.{ℕ}
 use lib.ListN.{getD}
 use Rattle.fields.proofs.Numbers.{nameOf, named}
 use Rattle.fields.proofs.Once.{once}
-use Rattle.curve.specs.Answer.{Answer, value, absent, refused, paper}
-use Rattle.curve.specs.declared.CurveAnswer.{CurveAnswer}
-use Rattle.curve.specs.declared.CurveRecord.{CurveRecord}
+use Rattle.curve_meaning.specs.Answer.{Answer, value, absent, refused, paper}
+use Rattle.curve_meaning.specs.declared.CurveAnswer.{CurveAnswer}
+use Rattle.curve_meaning.specs.declared.CurveRecord.{CurveRecord}
 
 -- the result that stands for an answer
 abbrev recordFrom : List ℕ → CurveRecord

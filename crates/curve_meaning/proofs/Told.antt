@@ -4,9 +4,9 @@ use Prim.Native.Nat.{ℕ}
 use native.Mathlib.Omega.{arith}
 use mathlib.Core.Path.{_≡_, refl}
 use mathlib.Core.List.{List}
-use Rattle.curve.specs.Answer.{value, absent, refused, answerOf, on, stop, goingOf}
-use Rattle.curve.specs.Shape.{Shape, Seen, is, no, stepOf, wordsOf}
-use Rattle.curve.specs.declared.Walk.{Walk}
+use Rattle.curve_meaning.specs.Answer.{value, absent, refused, answerOf, on, stop, goingOf}
+use Rattle.curve_meaning.specs.Shape.{Shape, Seen, is, no, stepOf, wordsOf}
+use Rattle.curve_meaning.specs.declared.Walk.{Walk}
 
 -- a value comes of a curve
 pub record Told (walk : Walk) (start : ℕ) (x : Seen) (ws : List ℕ) (consumed : ℕ) : Type 0 where

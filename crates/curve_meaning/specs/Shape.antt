@@ -4,9 +4,9 @@ use mathlib.Core.Bool.{cond}
 use mathlib.Core.List.{List, [], _∷_}
 use lib.Dec.{eqb}
 use lib.ListN.{getD}
-use Rattle.curve.specs.Layout.{entriesEnd, parametersEnd, parameterCount}
-use Rattle.curve.specs.declared.Walk.{Walk}
-use Rattle.curve.specs.declared.Walk.the-variants.{Crate, Book}
+use Rattle.curve_meaning.specs.Layout.{entriesEnd, parametersEnd, parameterCount}
+use Rattle.curve_meaning.specs.declared.Walk.{Walk}
+use Rattle.curve_meaning.specs.declared.Walk.the-variants.{Crate, Book}
 
 -- empty; a table of so many entries; a function of a type, with its parameters
 pub data Shape : Type 0 where

@@ -15,11 +15,11 @@ use Rattle.fields.specs.Tag.{signatureOf}
 use Rattle.fields.specs.declared.Kind.the-variants.{Curv, Para}
 use Rattle.fields.proofs.Append.{u16-append, u32-append, words-append, longer, part-append, rest-append}
 use Rattle.fields.proofs.Grow.{Grows, choose, passes}
-use Rattle.curve.specs.Answer.{Answer, value, absent, refused, answerOf}
-use Rattle.curve.specs.Curve.{trcOf, curveOf, tableOf, paraOf, tagOf}
-use Rattle.curve.specs.Layout.{parameterCount}
-use Rattle.curve.specs.Shape.{Seen, no}
-use Rattle.curve.specs.declared.Walk.{Walk}
+use Rattle.curve_meaning.specs.Answer.{Answer, value, absent, refused, answerOf}
+use Rattle.curve_meaning.specs.Curve.{trcOf, curveOf, tableOf, paraOf, tagOf}
+use Rattle.curve_meaning.specs.Layout.{parameterCount}
+use Rattle.curve_meaning.specs.Shape.{Seen, no}
+use Rattle.curve_meaning.specs.declared.Walk.{Walk}
 
 -- the answers that may change: those of one refusal
 abbrev pub Is : ℕ → Answer → Type 0

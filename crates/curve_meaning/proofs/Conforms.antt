@@ -13,12 +13,12 @@ use Rattle.fields.specs.Bytes.{u16At, u32At}
 use Rattle.fields.specs.Tag.{signatureOf}
 use Rattle.fields.specs.declared.Kind.the-variants.{Curv, Para}
 use Rattle.fields.proofs.Choice.{each, second-fails}
-use Rattle.curve.specs.Answer.{value, answerOf}
-use Rattle.curve.specs.Curve.{trcOf, curveOf, tableOf, paraOf, divides, tagOf}
-use Rattle.curve.specs.Layout.{parameterCount, parameters}
-use Rattle.curve.specs.Shape.{Shape, Seen, is, no, empty, table, para, wordsOf, stepOf}
-use Rattle.curve.specs.Standard.{Laid, WellFormed, Within}
-use Rattle.curve.specs.declared.Walk.{Walk}
+use Rattle.curve_meaning.specs.Answer.{value, answerOf}
+use Rattle.curve_meaning.specs.Curve.{trcOf, curveOf, tableOf, paraOf, divides, tagOf}
+use Rattle.curve_meaning.specs.Layout.{parameterCount, parameters}
+use Rattle.curve_meaning.specs.Shape.{Shape, Seen, is, no, empty, table, para, wordsOf, stepOf}
+use Rattle.curve_meaning.specs.Standard.{Laid, WellFormed, Within}
+use Rattle.curve_meaning.specs.declared.Walk.{Walk}
 
 -- ---- what is laid out so is accepted
 

@@ -8,10 +8,10 @@ use Rattle.fields.specs.Bytes.{u32At}
 use Rattle.fields.specs.House.{tagSize}
 use Rattle.fields.specs.Tag.{signatureOf}
 use Rattle.fields.specs.declared.Kind.the-variants.{Curv, Para}
-use Rattle.curve.specs.Layout.{entryCount, entriesEnd, functionType, parameterCount, parametersEnd, parameters}
-use Rattle.curve.specs.Shape.{Seen, is, no, empty, table, para}
-use Rattle.curve.specs.Answer.{Answer, absent, refused, answerOf}
-use Rattle.curve.specs.declared.Walk.{Walk}
+use Rattle.curve_meaning.specs.Layout.{entryCount, entriesEnd, functionType, parameterCount, parametersEnd, parameters}
+use Rattle.curve_meaning.specs.Shape.{Seen, is, no, empty, table, para}
+use Rattle.curve_meaning.specs.Answer.{Answer, absent, refused, answerOf}
+use Rattle.curve_meaning.specs.declared.Walk.{Walk}
 
 -- `curv`
 unfoldable pub tableOf : ℕ → List ℕ → Seen

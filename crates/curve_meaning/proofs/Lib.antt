@@ -1,0 +1,6 @@
+pub mod Told
+pub mod Unique
+pub mod Conforms
+pub mod Inside
+pub mod More
+pub mod Cases

@@ -1,0 +1,6 @@
+pub mod Layout
+pub mod Shape
+pub mod Answer
+pub mod Curve
+pub mod Standard
+pub mod Cases
