@@ -298,18 +298,18 @@ fn write_para(tag: &[u8], start: u32, walk: Walk, slot: &mut [u32]) -> Step
     let found = find_para(tag);
     match found {
         Found::Number(function) => {
-            let n = parameter_count(function);
+            let count = parameter_count(function);
             let curve = CurveRecord {
                 kind: 2 + function,
                 start,
-                count: n,
-                g: parameter(tag, n, 0),
-                a: parameter(tag, n, 1),
-                b: parameter(tag, n, 2),
-                c: parameter(tag, n, 3),
-                d: parameter(tag, n, 4),
-                e: parameter(tag, n, 5),
-                f: parameter(tag, n, 6),
+                count,
+                g: parameter(tag, count, 0),
+                a: parameter(tag, count, 1),
+                b: parameter(tag, count, 2),
+                c: parameter(tag, count, 3),
+                d: parameter(tag, count, 4),
+                e: parameter(tag, count, 5),
+                f: parameter(tag, count, 6),
             };
             put(slot, curve);
             Step::On(para_step(function))
