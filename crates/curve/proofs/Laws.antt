@@ -22,8 +22,8 @@ use Rattle.fields.specs.declared.Refusal.the-variants.{CurveRunsOut, OtherCurve
 use Rattle.fields.proofs.Choice.{each}
 use Rattle.fields.proofs.Located.{inside, past, rest-is, part-is}
 use Rattle.fields.proofs.Words.{word-at, word-past}
-use Rattle.curve_meaning.specs.Answer.{Answer, value, absent, refused, words, answerOf, Going, on, stop, goingOf, goingFrom, slotWith, seenIn, Went}
-use Rattle.curve_meaning.specs.Curve.{trcOf, curveOf, tableOf, paraOf, divides, tagOf}
+use Rattle.curve_meaning.specs.Answer.{Answer, value, absent, refused, words, answerOf, Going, on, stop, goingOf, slotWith, seenIn, Went}
+use Rattle.curve_meaning.specs.Curve.{trcOf, curveOf, tableOf, paraOf, divides}
 use Rattle.curve_meaning.specs.Layout.{entryCount, functionType, parameterCount, parameters}
 use Rattle.curve_meaning.specs.Shape.{Shape, Seen, is, no, empty, table, para, tableShape, emptyStep, stepOf, sizeOf, recordWords, recordOf, wordsOf}
 use Rattle.curve_meaning.specs.declared.CurveRecord.{CurveRecord}

@@ -1,6 +1,6 @@
--- `curve::judge_para` meets its contract: each way out is a law of `paraOf`, and the parameters of a function that is taken are there.
+-- `curve::judge_para` meets its contract: each way out is a law of `paraOf`.
 -- Assumes nothing.
-use Rattle.curve.proofs.Laws.{para-laws, para-known, para-fits}
+use Rattle.curve.proofs.Laws.{para-laws}
 use borrow.Author.Needs.{needs}
 use Rattle.curve.proofs.judge_para.Statement.{statement}
 use Rattle.curve.proofs.judge_para.Tie as tie
