@@ -23,8 +23,8 @@ module _ (t : List ℕ) (at n : ℕ) (l : List ℕ) (e : length l ≡ n) where
   pub words-end : (i : ℕ) → n ≤ i → sets l i (drop i (wordsAt t at n)) ≡ wordsAt t at n → l ≡ wordsAt t at n
   words-end i h w = fill-ends (wordsAt t at n) l i (omega (arith, words-length t at n)) w
 
-  pub bytes-turn : (i : ℕ) → i < length l → (v : ℕ) → v ≡ getD t (at + i) 0 → sets l i (drop i (bytesAt t at n)) ≡ bytesAt t at n → sets (set l i v) (i + 1) (drop (i + 1) (bytesAt t at n)) ≡ bytesAt t at n
-  bytes-turn i h v f w = fill-turns (bytesAt t at n) l i v (omega (arith, bytes-length t at n)) (f ∙ sym (byte-at t at n i (omega arith))) w
+  pub bytes-turn : (i : ℕ) → i < length l → sets l i (drop i (bytesAt t at n)) ≡ bytesAt t at n → sets (set l i (getD t (at + i) 0)) (i + 1) (drop (i + 1) (bytesAt t at n)) ≡ bytesAt t at n
+  bytes-turn i h w = fill-turns (bytesAt t at n) l i (getD t (at + i) 0) (omega (arith, bytes-length t at n)) (sym (byte-at t at n i (omega arith))) w
 
   pub bytes-end : (i : ℕ) → length l ≤ i → sets l i (drop i (bytesAt t at n)) ≡ bytesAt t at n → l ≡ bytesAt t at n
   bytes-end i h w = fill-ends (bytesAt t at n) l i (omega (arith, bytes-length t at n)) w

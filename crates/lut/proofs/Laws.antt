@@ -20,6 +20,7 @@ use Rattle.fields.proofs.Located.{inside, past, part-is}
 use Rattle.clut.specs.Answer.{paper as clutPaper, toldOf, Told, value as clutValue, refused as clutRefused}
 use Rattle.clut.specs.Clut.{Seen, is, no, clutOf}
 use Rattle.clut.specs.Table.{product, lengthOf}
+use Rattle.clut.proofs.Conforms.{accepted as laid-out}
 use Rattle.clut.specs.declared.ClutAnswer.{ClutAnswer}
 use Rattle.clut.specs.declared.ColourTable.{ColourTable}
 use Rattle.curve_meaning.specs.Shape.{recordWords}
@@ -33,10 +34,11 @@ use Rattle.mft.specs.declared.MftTable.{MftTable}
 use Rattle.run.specs.Run.{recordsOf}
 use Rattle.lut_meaning.specs.Abm.{tableOf, valueFrom, recordedOf, judgedOf, withTable, abmOf}
 use Rattle.lut_meaning.specs.Answer.{mft, abm, refused, Answer, none, refuse, mftState, fromMft, paper, leftBy}
-use Rattle.lut_meaning.specs.Layout.{toPcs, inputs, outputs, planOf, Planned, recordsNeeded, gridOf, matrixOf, biasOf}
+use Rattle.lut_meaning.specs.Layout.{toPcs, inputs, outputs, clutOffset, planOf, Planned, recordsNeeded, gridOf, matrixOf, biasOf}
 use Rattle.lut_meaning.specs.Lut.{Said, tagOf, isAbm, byType, lutOf}
 use Rattle.lut_meaning.specs.Parts.{runsJudged, curvesOf, matrixJudged}
 use Rattle.lut_meaning.specs.Judged.{good}
+use Rattle.lut.specs.Grid.{GridInside}
 use Rattle.lut.specs.Verdict.{judgedFrom}
 use Rattle.lut_meaning.specs.declared.Lut.{Lut}
 use Rattle.lut_meaning.specs.declared.Plan.{Plan}
@@ -126,6 +128,17 @@ module _ (walk : Walk) (limit : ℕ) (t s : List ℕ) (found : ClutAnswer) (h : 
       by : (x : Seen) → tableOf t ≡ x → Said walk limit t (withTable walk limit t (length s) (tableOf t)) r s s
       by (is table) f = let k : clutRefused (numberOf why) ≡ toldOf (is table) = sym (ap clutPaper e) ∙ h ∙ ap toldOf f in let z : _≡_ {A = ℕ} 0 1 = cc in absurd (omega arith)
       by (no n) f = let k : clutRefused (numberOf why) ≡ toldOf (no n) = sym (ap clutPaper e) ∙ h ∙ ap toldOf f in refusing walk limit t s _ r (numberOf why) (rw f (let z : n ≡ numberOf why = cc in ap refuse z)) g
+
+  pub grid-there : (c : ColourTable) → found ≡ ClutAnswer.Value c → GridInside t
+  unfolding tableOf toldOf
+  grid-there c e z = by (clutOf t (clutOffset t) (inputs t) (outputs t)) refl
+    where
+      by : (x : Seen) → clutOf t (clutOffset t) (inputs t) (outputs t) ≡ x → clutOffset t + 16 ≤ length t
+      by (is table) f = let a = laid-out t (clutOffset t) (inputs t) (outputs t) table f .laid in omega (arith, a .whole, a .start-is)
+      by (no n) f =
+          let g : tableOf t ≡ no n = rw (ne-eqb _ _ z) f in
+          let k : clutPaper (ClutAnswer.Value c) ≡ toldOf (no n) = sym (ap clutPaper e) ∙ h ∙ ap toldOf g in
+          let y : _≡_ {A = ℕ} 0 1 = cc in absurd (omega arith)
 
   pub table-passed : (c : ColourTable) (r : Lut) (s' : List ℕ) → found ≡ ClutAnswer.Value c → Said walk limit t (judgedOf walk limit t (length s) (c .start .0) (c .length) (c .«entry_size»)) r s s' → Said walk limit t (withTable walk limit t (length s) (tableOf t)) r s s'
   unfolding toldOf

@@ -19,6 +19,7 @@ use Rattle.run.specs.Run.{recordsOf}
 use Rattle.lut_meaning.specs.Layout.{toPcs, deviceChannels, spaceChannels, present, Few, aCurves, mCurves, bCurves, planOf, Planned, identity, matrixOf, biasOf, gridOf}
 use Rattle.lut_meaning.specs.Parts.{runA, runM, runB, runsJudged, curvesOf, matrixJudged}
 use Rattle.lut_meaning.specs.Judged.{Judged, good, bad, ended, andThen}
+use Rattle.lut.specs.Grid.{GridInside}
 use Rattle.lut.specs.Verdict.{judgedFrom}
 use Rattle.lut_meaning.specs.declared.Plan.{Plan}
 use Rattle.lut_meaning.proofs.Shared.{a-whole, m-whole, b-whole, records-of, all-records}
@@ -175,6 +176,9 @@ module _ (t : List ℕ) (at : ℕ) where
   pub grid-given : at ≡ u32At t 24 → (at ≡ 0 → ⊥) → (bs : List ℕ) → bs ≡ bytesAt t at 16 → bs ≡ gridOf t
   unfolding gridOf
   grid-given h e bs w = rw (← h, ne-eqb at 0 e) w
+
+  pub grid-fits : GridInside t → at ≡ u32At t 24 → (at ≡ 0 → ⊥) → at + 16 ≤ length t
+  grid-fits g h e = let l = g (λ z. e (h ∙ z)) in omega arith
 
   pub grid-default : at ≡ u32At t 24 → at ≡ 0 → replicate 16 0 ≡ gridOf t
   unfolding gridOf

@@ -29,6 +29,7 @@ ghost use Rattle.lut_meaning.specs.Parts.{runsJudged, curvesOf, matrixJudged};
 ghost use Rattle.lut_meaning.specs.Answer.{paper};
 ghost use Rattle.lut_meaning.specs.Layout.{toPcs, inputs, outputs, deviceChannels, spaceChannels, Few, present, aCurves, mCurves, bCurves, Planned, gridOf, matrixOf, biasOf};
 ghost use Rattle.lut_meaning.specs.Judged.{good};
+ghost use Rattle.lut.specs.Grid.{GridInside};
 ghost use Rattle.lut.specs.Verdict.{judgedFrom};
 
 // Whether the tag leads towards the connection space.
@@ -172,14 +173,14 @@ fn find_table(tag: &[u8]) -> ClutAnswer
     clut::read_clut(tag, InTag(at as u64), inputs, outputs)
 }
 
-// Fills `out` with the bytes from `at` on.
+// Fills `out` with the bytes from `at` on, all of them in the tag.
 fn fill_bytes(tag: &[u8], at: InTag, out: &mut [u8])
-    requires { ⌜ (at .0 < 2 ^ 33) × (length (now out) < 2 ^ 32) ⌝ }
+    requires { ⌜ at .0 + length (now out) ≤ length (now tag) ⌝ }
     ensures { λ _. ⌜ now (out .exit) ≡ bytesAt (now (tag .entry)) (at .0) (length (now (out .entry))) ⌝ }
 {
     let mut i = 0;
     while i < out.len() {
-        out[i] = fields::u8_at(tag, InTag(at.0 + i as u64));
+        out[i] = tag[at.0 as usize + i];
         i += 1;
     }
 }
@@ -211,6 +212,7 @@ fn bias(tag: &[u8]) -> [u32; 3]
 
 // The sixteen grid bytes, zeros without a colour table.
 fn grid(tag: &[u8]) -> [u8; 16]
+    requires { ⌜ GridInside (now tag) ⌝ }
     ensures { λ r. ⌜ r ≡ gridOf (now (tag .entry)) ⌝ }
 {
     let at = fields::u32_at(tag, InTag(24));
@@ -223,7 +225,7 @@ fn grid(tag: &[u8]) -> [u8; 16]
 
 // The answer for a tag that is good, with its runs and its colour table.
 fn value(tag: &[u8], p: Plan, table: ColourTable) -> Lut
-    requires { ⌜ Planned (now tag) p ⌝ }
+    requires { ⌜ Planned (now tag) p × GridInside (now tag) ⌝ }
     ensures { λ r. ⌜ paper r ≡ valueFrom (now (tag .entry)) (table .start .0) (table .length) (table .«entry_size») ⌝ }
 {
     let start = table.start;
@@ -268,7 +270,7 @@ fn write_records(
     walk: Walk,
     slots: &mut [u32],
 ) -> Lut
-    requires { ⌜ (length (now tag) < 2 ^ 32) × Planned (now tag) p × (runsJudged walk limit (now tag) p ≡ good) ⌝ }
+    requires { ⌜ (length (now tag) < 2 ^ 32) × Planned (now tag) p × (runsJudged walk limit (now tag) p ≡ good) × GridInside (now tag) ⌝ }
     ensures { λ r. ⌜ Said walk limit (now (tag .entry)) (recordedOf (now (tag .entry)) (length (now (slots .entry))) (table .start .0) (table .length) (table .«entry_size»)) r (now (slots .entry)) (now (slots .exit)) ⌝ }
 {
     let needed = p.na + p.nm + p.nb;
@@ -281,7 +283,7 @@ fn write_records(
 
 // Judges the runs of a tag whose colour table is good, and goes on.
 fn read_runs(tag: &[u8], table: ColourTable, limit: u64, walk: Walk, slots: &mut [u32]) -> Lut
-    requires { ⌜ length (now tag) < 2 ^ 32 ⌝ }
+    requires { ⌜ (length (now tag) < 2 ^ 32) × GridInside (now tag) ⌝ }
     ensures { λ r. ⌜ Said walk limit (now (tag .entry)) (judgedOf walk limit (now (tag .entry)) (length (now (slots .entry))) (table .start .0) (table .length) (table .«entry_size»)) r (now (slots .entry)) (now (slots .exit)) ⌝ }
 {
     let p = find_runs(tag);

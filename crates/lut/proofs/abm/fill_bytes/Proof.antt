@@ -26,7 +26,7 @@ fill-bytes-spec =
     μ-loop
     (λ c. (omega arith, refl, search (needs, bytes-begin)))
     (λ c. search needs)
-    (λ c κs. search needs)
+    (λ c. search needs)
     (λ c. search needs)
     (λ c. search needs)
     (λ c. search needs)

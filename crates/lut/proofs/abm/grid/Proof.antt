@@ -1,6 +1,6 @@
 -- `lut::abm::grid` meets its contract: sixteen bytes, or zeros.
 -- Assumes nothing.
-use Rattle.lut.proofs.PartLaws.{array-laws}
+use Rattle.lut.proofs.PartLaws.{array-laws, grid-fits}
 use borrow.Author.Needs.{needs}
 use Rattle.lut.proofs.abm.grid.Statement.{statement}
 use Rattle.lut.proofs.abm.grid.Tie as tie
@@ -12,6 +12,6 @@ grid-spec =
     (λ c κs. search needs)
     (λ c. search needs)
     (λ c. search needs)
-    (λ c κs. search needs)
+    (λ c κs. search (needs, grid-fits))
     (λ c. search (needs, array-laws))
     (λ c. search (needs, array-laws)))
