@@ -264,11 +264,11 @@ fn whole_nine(s: &[u8], from: usize) -> [u32; 9]
     ensures { λ r. ⌜ r ≡ wordsAt (now (s .entry)) from 9 ⌝ }
 {
     let mut words = [0u32; 9];
-    let mut i = 0;
-    while i < 9 {
-        let at = from + 4 * i;
-        words[i] = number_of(s[at], s[at + 1], s[at + 2], s[at + 3]);
-        i += 1;
+    let mut k = 0;
+    while k < 9 {
+        let at = from + 4 * k;
+        words[k] = number_of(s[at], s[at + 1], s[at + 2], s[at + 3]);
+        k += 1;
     }
     words
 }

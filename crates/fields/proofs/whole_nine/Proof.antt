@@ -12,11 +12,11 @@ use Rattle.fields.proofs.whole_nine.Statement.{statement}
 use Rattle.fields.proofs.whole_nine.Tie as tie
 
 abbrev Inv-loop : tie.InvT-loop
-Inv-loop s from words₀ i₀ words i =
-    (i ≤ 9) × (length words ≡ 9) × (sets words i (drop i (wordsAt s from 9)) ≡ wordsAt s from 9)
+Inv-loop s from words₀ k₀ words k =
+    (k ≤ 9) × (length words ≡ 9) × (sets words k (drop k (wordsAt s from 9)) ≡ wordsAt s from 9)
 
 abbrev μ-loop : tie.MeasureT-loop
-μ-loop s from words₀ i₀ words i = 9 - i
+μ-loop s from words₀ k₀ words k = 9 - k
 
 pub whole-nine-spec : {M : Type 1} → statement M
 whole-nine-spec =
