@@ -2,20 +2,23 @@
 -- Assumes nothing.
 use Prim.Native.Nat.{ℕ, _+_, _-_, _*_, _≤_, _<_}
 use native.Mathlib.Omega.{arith}
+use native.Mathlib.Nat.{zero-add}
 use mathlib.Core.Path.{_≡_, refl, sym, _∙_, ap}
-use mathlib.Core.Bool.{Bool, true, false}
+use mathlib.Core.Bool.{Bool, true, false, _&&_}
 use mathlib.Core.List.{List, [], _∷_, _++_}
+use lib.Dec.{eqb}
 use lib.ListN.{length, getD, take, drop, replicate, length-append}
 use lib.Seq.{sets, length-sets}
 use types.Run.{OneOf}
 use denote.Enum.Declared.{tagOf as placeIn}
-use borrow.Author.Tests.{eq-eqb, ne-eqb, lt-ltb, le-ltb}
+use borrow.Author.Tests.{eq-eqb, ne-eqb, lt-ltb, le-ltb, eqb-true}
 use borrow.Rule.Slice.PartMut.{putMid}
 use Rattle.fields.specs.Bytes.{u32At, bytesAt, wordsAt}
+use Rattle.fields.proofs.Choice.{first-holds, second-holds}
 use Rattle.fields.proofs.Stores.{sets-append, front, rejoined}
 use Rattle.curve_meaning.specs.Shape.{recordWords}
 use Rattle.curve_meaning.specs.declared.Walk.{Walk}
-use Rattle.run.specs.Run.{recordsOf}
+use Rattle.run.specs.Run.{runAt, recordsOf}
 use Rattle.lut_meaning.specs.Layout.{toPcs, deviceChannels, spaceChannels, present, Few, aCurves, mCurves, bCurves, planOf, Planned, identity, matrixOf, biasOf, gridOf}
 use Rattle.lut_meaning.specs.Parts.{runA, runM, runB, runsJudged, curvesOf, matrixJudged}
 use Rattle.lut_meaning.specs.Judged.{Judged, good, bad, ended, andThen}
@@ -120,6 +123,33 @@ module _ (walk : Walk) (limit : ℕ) (t : List ℕ) (p : Plan) (v : Verdict) (ja
     runs-b x e jb = jb ∙ pass-here w _ _ e jm ∙ pass-here v _ _ g ja
 
 pub ruleset runs-laws = (runs-a, runs-m, runs-b)
+
+-- ---- curves B alone
+
+module _ (p : Plan) where
+  pub alone-not : (p .na ≡ 0 → ⊥) → false ≡ eqb (p .na) 0 && eqb (p .nm) 0
+  alone-not z = simp (ne-eqb _ _ z)
+
+  pub alone-test : p .na ≡ 0 → eqb (p .nm) 0 ≡ eqb (p .na) 0 && eqb (p .nm) 0
+  alone-test z = simp (eq-eqb _ _ z)
+
+module _ (walk : Walk) (limit : ℕ) (t : List ℕ) (p : Plan) (b : Bool) (h : b ≡ eqb (p .na) 0 && eqb (p .nm) 0) (e : b ≡ true) where
+  a-none : p .na ≡ 0
+  a-none = eqb-true _ _ (first-holds (eqb (p .na) 0) (eqb (p .nm) 0) (sym h ∙ e))
+
+  m-none : p .nm ≡ 0
+  m-none = eqb-true _ _ (second-holds (eqb (p .na) 0) (eqb (p .nm) 0) (sym h ∙ e))
+
+  pub alone-judged : (v : Verdict) → judgedFrom v ≡ ended (runB walk limit t p .end) → judgedFrom v ≡ runsJudged walk limit t p
+  unfolding runsJudged runAt ended
+  alone-judged v j = rw (a-none, m-none) j
+
+  pub alone-room : (s : List ℕ) → (p .na + p .nm + p .nb) * recordWords ≤ length s → p .nb * recordWords ≤ length s
+  alone-room s l = omega arith
+
+  pub alone-written : (s s′ : List ℕ) → s′ ≡ recordsOf (runB walk limit t p .curves) ++ drop (p .nb * recordWords) s → s′ ≡ recordsOf (curvesOf walk limit t p) ++ drop ((p .na + p .nm + p .nb) * recordWords) s
+  unfolding curvesOf runAt
+  alone-written s s′ w = rw (a-none, m-none, zero-add) w
 
 -- ---- the runs, written
 

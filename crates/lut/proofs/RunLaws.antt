@@ -4,9 +4,11 @@ use Prim.Native.Nat.{ℕ, suc, _+_, _-_, _*_, _^_, _≤_, _<_}
 use native.Mathlib.Omega.{arith}
 use native.Mathlib.Nat.{sub-zero}
 use mathlib.Core.Path.{_≡_, refl, sym, _∙_, ap}
-use mathlib.Core.List.{List}
+use mathlib.Core.List.{List, [], _∷_}
 use lib.ListN.{length, take, drop, length-drop}
 use lib.Seq.{sets, length-take-le}
+use types.Run.{OneOf}
+use denote.Enum.Declared.{tagOf as placeIn}
 use borrow.Author.Tests.{lt-ltb, le-ltb}
 use borrow.Rule.Slice.PartMut.{putMid}
 use Rattle.fields.specs.Refusals.{numberOf}
@@ -19,11 +21,14 @@ use Rattle.curve_meaning.specs.Shape.{Seen, is, stepOf, recordWords, wordsOf}
 use Rattle.curve_meaning.specs.declared.Step.{Step}
 use Rattle.curve_meaning.specs.declared.Walk.{Walk}
 use Rattle.curve_meaning.proofs.Inside.{step-most}
+use Rattle.curve_meaning.proofs.Step as steps
 use Rattle.curve_meaning.proofs.Told.{stepped, stepped-no}
 use Rattle.run.specs.Run.{Ran, raised, entryAt, runAt}
 use Rattle.run.proofs.Runs.{entry-there, entry-inside, run-turn}
 use Rattle.run.proofs.Writing.{Writing, words-length, next-is, turns}
 use Rattle.lut_meaning.specs.Judged.{good, bad, ended}
+use Rattle.lut.specs.Verdict.{judgedFrom, stepJudged}
+use Rattle.lut.specs.declared.nested.Verdict.{Verdict}
 
 -- ---- a curve of a run
 
@@ -53,6 +58,9 @@ pub ruleset entry-laws = (run-past, run-short, run-there)
 pub run-start : (walk : Walk) (limit : ℕ) (t : List ℕ) (at n : ℕ) → runAt walk limit t at n .end ≡ runAt walk limit t at (n - 0) .end
 run-start walk limit t at n = rw sub-zero
 
+pub stop-refused : (got : Step) (why : Refusal) → got ≡ Step.Refused why → bad (numberOf why) ≡ stepJudged (goingFrom got)
+stop-refused got why e = rw e
+
 module _ (walk : Walk) (limit : ℕ) (t : List ℕ) (at n i next : ℕ) (inv : runAt walk limit t at n .end ≡ runAt walk limit t next (n - i) .end) where
   pub run-done : n ≤ i → good ≡ ended (runAt walk limit t at n .end)
   unfolding runAt ended
@@ -62,12 +70,16 @@ module _ (walk : Walk) (limit : ℕ) (t : List ℕ) (at n i next : ℕ) (inv : r
     less : n - i ≡ suc (n - (i + 1))
     less = omega arith
 
-    -- a refusal ends the run with what it says
-    pub run-stop : (why : Refusal) → got ≡ Step.Refused why → bad (numberOf why) ≡ ended (runAt walk limit t at n .end)
+    -- a step that does not go on ends the run with what it says
+    pub run-stop : (v : Verdict) → OneOf (1 ∷ []) (placeIn steps.the-type got) → judgedFrom v ≡ stepJudged (goingFrom got) → judgedFrom v ≡ ended (runAt walk limit t at n .end)
     unfolding runAt ended
-    run-stop why e =
-        let x = stepped-no walk (entryAt limit t next) (sym (ap goingFrom e) ∙ here) in
-        sym (ap ended inv ∙ rw (less, x))
+    run-stop v k j = j ∙ by got refl k
+      where
+        by : (q : Step) → got ≡ q → OneOf (1 ∷ []) (placeIn steps.the-type q) → stepJudged (goingFrom got) ≡ ended (runAt walk limit t at n .end)
+        by (Step.On m) e o = absurd (omega arith)
+        by (Step.Refused why) e o =
+            let x = stepped-no walk (entryAt limit t next) (sym (ap goingFrom e) ∙ here) in
+            ap (λ (q : Step). stepJudged (goingFrom q)) e ∙ sym (ap ended inv ∙ rw (less, x))
 
     pub run-again : (consumed next′ : ℕ) → got ≡ Step.On consumed → next′ ≡ raised (next + consumed) → runAt walk limit t at n .end ≡ runAt walk limit t next′ (n - (i + 1)) .end
     run-again consumed next′ e f =
@@ -117,9 +129,13 @@ module _ (walk : Walk) (limit : ℕ) (t : List ℕ) (o n : ℕ) (s₀ s : List �
       unfolding slot
       going = went .going-is ∙ ap (goingOf walk) seen-next
 
-      pub write-never : (why : Refusal) → got ≡ Step.Refused why → ⊥
+      pub write-never : OneOf (1 ∷ []) (placeIn steps.the-type got) → ⊥
       unfolding goingOf
-      write-never why e = let k = sym (ap goingFrom e) ∙ going in let z : _≡_ {A = ℕ} 0 1 = cc in omega arith
+      write-never o = by got refl o
+        where
+          by : (q : Step) → got ≡ q → OneOf (1 ∷ []) (placeIn steps.the-type q) → ⊥
+          by (Step.On m) e k = omega arith
+          by (Step.Refused why) e k = let k = sym (ap goingFrom e) ∙ going in let z : _≡_ {A = ℕ} 0 1 = cc in omega arith
 
       module _ (consumed : ℕ) (e : got ≡ Step.On consumed) where
         step-is : consumed ≡ stepOf walk (next-is walk limit t o n s₀ s at i w l .shape)

@@ -17,7 +17,7 @@ ghost use mathlib.Core.Path.{_≡_};
 ghost use mathlib.Core.Bool.{_&&_};
 ghost use mathlib.Core.List.{_++_};
 ghost use Prim.Native.Nat.{_+_, _*_, _^_, _≤_, _<_};
-ghost use lib.Dec.{ltb};
+ghost use lib.Dec.{ltb, eqb};
 ghost use lib.ListN.{length, drop};
 ghost use Rattle.clut.specs.Answer.{paper as Clut·paper, toldOf};
 ghost use Rattle.fields.specs.Bytes.{bytesAt};
@@ -139,6 +139,41 @@ fn write_runs(tag: &[u8], p: Plan, limit: u64, walk: Walk, slots: &mut [u32])
     let b_at = p.b;
     let first_b = (na + nm) * RECORD_WORDS;
     nested::write_run(tag, b_at, p.nb, limit, walk, &mut slots[first_b..]);
+}
+
+// Whether there are curves B alone, or none.
+fn has_b_alone(p: Plan) -> bool
+    ensures { λ r. ⌜ r ≡ eqb (p .na) 0 && eqb (p .nm) 0 ⌝ }
+{
+    if p.na != 0 {
+        return false;
+    }
+    p.nm == 0
+}
+
+// Judges the runs. Many tags have curves B alone, and then there is one run to walk.
+fn judge_runs(tag: &[u8], p: Plan, limit: u64, walk: Walk) -> Verdict
+    requires { ⌜ length (now tag) < 2 ^ 32 ⌝ }
+    ensures { λ r. ⌜ judgedFrom r ≡ runsJudged walk limit (now (tag .entry)) p ⌝ }
+{
+    if has_b_alone(p) {
+        let at = p.b;
+        return nested::check_run(tag, at, p.nb, limit, walk);
+    }
+    check_runs(tag, p, limit, walk)
+}
+
+// Writes the records of the runs, which were judged good.
+fn record_runs(tag: &[u8], p: Plan, limit: u64, walk: Walk, slots: &mut [u32])
+    requires { ⌜ (length (now tag) < 2 ^ 32) × (runsJudged walk limit (now tag) p ≡ good) × ((p .na + p .nm + p .nb) * recordWords ≤ length (now slots)) ⌝ }
+    ensures { λ _. ⌜ now (slots .exit) ≡ recordsOf (curvesOf walk limit (now (tag .entry)) p) ++ drop ((p .na + p .nm + p .nb) * recordWords) (now (slots .entry)) ⌝ }
+{
+    if has_b_alone(p) {
+        let at = p.b;
+        nested::write_run(tag, at, p.nb, limit, walk, slots);
+        return;
+    }
+    write_runs(tag, p, limit, walk, slots);
 }
 
 // A matrix has 48 bytes.
@@ -277,7 +312,7 @@ fn write_records(
     if slots.len() / RECORD_WORDS < needed as usize {
         return answer::refused(Refusal::TooFewSlots);
     }
-    write_runs(tag, p, limit, walk, slots);
+    record_runs(tag, p, limit, walk, slots);
     value(tag, p, table)
 }
 
@@ -287,7 +322,7 @@ fn read_runs(tag: &[u8], table: ColourTable, limit: u64, walk: Walk, slots: &mut
     ensures { λ r. ⌜ Said walk limit (now (tag .entry)) (judgedOf walk limit (now (tag .entry)) (length (now (slots .entry))) (table .start .0) (table .length) (table .«entry_size»)) r (now (slots .entry)) (now (slots .exit)) ⌝ }
 {
     let p = find_runs(tag);
-    let judged = check_runs(tag, p, limit, walk);
+    let judged = judge_runs(tag, p, limit, walk);
     match judged {
         Verdict::Good => write_records(tag, p, table, limit, walk, slots),
         Verdict::Refused(why) => answer::refused(why),

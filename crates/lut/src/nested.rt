@@ -12,7 +12,7 @@ ghost use Rattle.curve_meaning.specs.Answer.{goingFrom, goingOf};
 ghost use Rattle.curve_meaning.specs.Shape.{recordWords};
 ghost use Rattle.run.specs.Run.{whole, raised, entryAt, runAt, recordsOf};
 ghost use Rattle.lut_meaning.specs.Judged.{ended};
-ghost use Rattle.lut.specs.Verdict.{judgedFrom};
+ghost use Rattle.lut.specs.Verdict.{judgedFrom, stepJudged};
 
 pub(crate) enum Verdict {
     Good,
@@ -41,6 +41,16 @@ fn next_curve(at: InTag, consumed: u64) -> InTag
     InTag((at.0 + consumed + 3) / 4 * 4)
 }
 
+// What a step says of its run: a refusal ends it.
+fn stopped(got: Step) -> Verdict
+    ensures { λ r. ⌜ judgedFrom r ≡ stepJudged (goingFrom got) ⌝ }
+{
+    match got {
+        Step::Refused(why) => Verdict::Refused(why),
+        Step::On(_) => Verdict::Good,
+    }
+}
+
 // Judges a run of n curves from an offset on, and writes nothing.
 pub(crate) fn check_run(tag: &[u8], at: InTag, n: u32, limit: u64, walk: Walk) -> Verdict
     requires { ⌜ length (now tag) < 2 ^ 32 ⌝ }
@@ -50,14 +60,10 @@ pub(crate) fn check_run(tag: &[u8], at: InTag, n: u32, limit: u64, walk: Walk) -
     let mut i: u32 = 0;
     while i < n {
         let got = judge_at(tag, next, limit, walk);
-        match got {
-            Step::On(consumed) => {
-                next = next_curve(next, consumed);
-            }
-            Step::Refused(why) => {
-                return Verdict::Refused(why);
-            }
-        }
+        let Step::On(consumed) = got else {
+            return stopped(got);
+        };
+        next = next_curve(next, consumed);
         i += 1;
     }
     Verdict::Good
@@ -80,14 +86,10 @@ pub(crate) fn write_run(tag: &[u8], at: InTag, n: u32, limit: u64, walk: Walk, s
             walk,
             &mut slots[slot..slot + RECORD_WORDS],
         );
-        match got {
-            Step::On(consumed) => {
-                next = next_curve(next, consumed);
-            }
-            Step::Refused(_) => {
-                return;
-            }
-        }
+        let Step::On(consumed) = got else {
+            return;
+        };
+        next = next_curve(next, consumed);
         i += 1;
     }
 }
