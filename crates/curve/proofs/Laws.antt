@@ -189,14 +189,17 @@ module _ (walk : Walk) (start : ℕ) (t : List ℕ) (found : Found) (j : paraFro
     unfolding Fits
     inside-it = subst (Fits t) (sym para-is) (fits t)
 
-    pub para-known : 2 + k < 2 ^ 32
-    para-known = omega (arith, inside-it .0)
+    pub para-known : k ≤ 4
+    para-known = inside-it .0
+
+    pub kind-fits : 2 + k < 2 ^ 32
+    kind-fits = omega (arith, para-known)
 
     module _ (n : ℕ) (m : n ≡ parameterCount k) where
       pub para-fits : 12 + 4 * n ≤ length t
       para-fits = rw m (inside-it .1)
 
-      module _ (p₀ p₁ p₂ p₃ p₄ p₅ p₆ c : ℕ) (g : c ≡ 12 + 4 * parameterCount k) (e₀ : p₀ ≡ getD (wordsAt t 12 n) 0 0) (e₁ : p₁ ≡ getD (wordsAt t 12 n) 1 0) (e₂ : p₂ ≡ getD (wordsAt t 12 n) 2 0) (e₃ : p₃ ≡ getD (wordsAt t 12 n) 3 0) (e₄ : p₄ ≡ getD (wordsAt t 12 n) 4 0) (e₅ : p₅ ≡ getD (wordsAt t 12 n) 5 0) (e₆ : p₆ ≡ getD (wordsAt t 12 n) 6 0) where
+      module _ (p₀ p₁ p₂ p₃ p₄ p₅ p₆ c : ℕ) (g : c ≡ 12 + 4 * n) (e₀ : p₀ ≡ getD (wordsAt t 12 n) 0 0) (e₁ : p₁ ≡ getD (wordsAt t 12 n) 1 0) (e₂ : p₂ ≡ getD (wordsAt t 12 n) 2 0) (e₃ : p₃ ≡ getD (wordsAt t 12 n) 3 0) (e₄ : p₄ ≡ getD (wordsAt t 12 n) 4 0) (e₅ : p₅ ≡ getD (wordsAt t 12 n) 5 0) (e₆ : p₆ ≡ getD (wordsAt t 12 n) 6 0) where
         row : List ℕ
         row = (2 + k) ∷ start ∷ n ∷ p₀ ∷ p₁ ∷ p₂ ∷ p₃ ∷ p₄ ∷ p₅ ∷ p₆ ∷ []
 
@@ -206,7 +209,7 @@ module _ (walk : Walk) (start : ℕ) (t : List ℕ) (found : Found) (j : paraFro
 
         step-is : c ≡ stepOf walk (para k (wordsAt t 12 (parameterCount k)))
         unfolding stepOf sizeOf
-        step-is = g
+        step-is = rw (← m) g
 
         pub para-value : value ((2 + k) ∷ start ∷ n ∷ p₀ ∷ p₁ ∷ p₂ ∷ p₃ ∷ p₄ ∷ p₅ ∷ p₆ ∷ []) c ≡ answerOf walk start (paraOf t)
         unfolding row
@@ -216,9 +219,9 @@ module _ (walk : Walk) (start : ℕ) (t : List ℕ) (found : Found) (j : paraFro
         unfolding row
         para-written slot slot' h = writing walk start para-is step-is slot slot' row-is h
 
-    pub para-on : (c : ℕ) → c ≡ 12 + 4 * parameterCount k → on c ≡ goingOf walk (paraOf t)
+    pub para-on : (n c : ℕ) → n ≡ parameterCount k → c ≡ 12 + 4 * n → on c ≡ goingOf walk (paraOf t)
     unfolding stepOf sizeOf
-    para-on c g = stepping walk start para-is g
+    para-on n c m g = stepping walk start para-is (rw (← m) g)
 
   module _ (why : Refusal) (e : found ≡ Found.Refused why) where
     para-not : no (numberOf why) ≡ paraOf t

@@ -50,25 +50,22 @@ fn table_step(entries: u32, walk: Walk) -> u64
     12 + 2 * (entries as u64)
 }
 
-// How many parameters a function has; one that the standard does not know has none.
+// Parameters by function type.
+const COUNT_TO_LENGTH: [u32; 5] = [1, 3, 4, 5, 7];
+
+// How many parameters a function has.
 fn parameter_count(function: u32) -> u32
+    requires { ⌜ function ≤ 4 ⌝ }
     ensures { λ r. ⌜ r ≡ parameterCount function ⌝ }
 {
-    match function {
-        0 => 1,
-        1 => 3,
-        2 => 4,
-        3 => 5,
-        4 => 7,
-        _ => 0,
-    }
+    COUNT_TO_LENGTH[function as usize]
 }
 
-// The step behind a function.
-fn para_step(function: u32) -> u64
-    ensures { λ r. ⌜ r ≡ parametersEnd (parameterCount function) ⌝ }
+// The step behind a function of so many parameters.
+fn para_step(count: u32) -> u64
+    ensures { λ r. ⌜ r ≡ parametersEnd count ⌝ }
 {
-    12 + 4 * (parameter_count(function) as u64)
+    12 + 4 * (count as u64)
 }
 
 // The number that stands at `at`, all of it.
@@ -157,7 +154,10 @@ fn judge_para(tag: &[u8], walk: Walk) -> Step
 {
     let found = find_para(tag);
     match found {
-        Found::Number(function) => Step::On(para_step(function)),
+        Found::Number(function) => {
+            let n = parameter_count(function);
+            Step::On(para_step(n))
+        }
         Found::Refused(why) => Step::Refused(why),
     }
 }
@@ -233,7 +233,7 @@ fn read_para(tag: &[u8], start: u32, walk: Walk) -> CurveAnswer
                 e: parameter(tag, n, 5),
                 f: parameter(tag, n, 6),
             };
-            let consumed = para_step(function);
+            let consumed = para_step(n);
             CurveAnswer::Value { curve, consumed }
         }
         Found::Refused(why) => CurveAnswer::Refused(why),
@@ -312,7 +312,7 @@ fn write_para(tag: &[u8], start: u32, walk: Walk, slot: &mut [u32]) -> Step
                 f: parameter(tag, count, 6),
             };
             put(slot, curve);
-            Step::On(para_step(function))
+            Step::On(para_step(count))
         }
         Found::Refused(why) => Step::Refused(why),
     }
