@@ -17,7 +17,7 @@ use Rattle.fields.proofs.Located.{rest-is}
 use Rattle.fields.proofs.Stores.{replaced}
 use Rattle.curve_meaning.specs.Answer.{Going, stop, goingOf, goingFrom, slotWith, seenIn, Went}
 use Rattle.curve_meaning.specs.Curve.{curveOf}
-use Rattle.curve_meaning.specs.Shape.{Seen, is, stepOf, recordWords, wordsOf}
+use Rattle.curve_meaning.specs.Shape.{is, stepOf, recordWords, wordsOf}
 use Rattle.curve_meaning.specs.declared.Step.{Step}
 use Rattle.curve_meaning.specs.declared.Walk.{Walk}
 use Rattle.curve_meaning.proofs.Inside.{step-most}

@@ -1,7 +1,6 @@
 -- `lut::nested::write_run` meets its contract: what is left to write makes of the slots what the whole run makes of them.
 -- Assumes nothing.
 use Prim.Native.Nat.{_-_}
-use native.Mathlib.Omega.{arith}
 use borrow.Author.Needs.{needs}
 use Rattle.run.proofs.Writing.{Writing, begins, ends}
 use Rattle.lut.proofs.RunLaws.{curve-begins, data-fits, data-counts, slot-there, write-near, write-turn, write-never}
