@@ -33,11 +33,11 @@ use Rattle.small_meaning.specs.Answer.{Answer as Small·Answer}
 use Rattle.small_meaning.specs.Standard.{Accepts, AcceptsOnly}
 use Rattle.small_meaning.proofs.Conforms.{chad-accepts, chad-laid, sig-accepts, sig-laid, date-accepts, date-laid, meas-accepts, meas-laid, view-accepts, view-laid, xyz-accepts, xyz-laid, cicp-accepts, cicp-laid}
 use Rattle.small_meaning.proofs.Unique.{chad-unique, sig-unique, date-unique, meas-unique, view-unique, xyz-unique, cicp-unique}
-use Rattle.table.specs.View.{numbersOf, tableBy}
-use Rattle.table.specs.declared.TableNumbers.{TableNumbers}
-use Rattle.table.proofs.Any.{invalid-absent}
-use Rattle.table.proofs.Order.{entries-in-order}
-use Rattle.table.proofs.Shows.{Shows as TableShows, abm-shows, mft-shows}
+use Rattle.table_meaning.specs.View.{numbersOf, tableBy}
+use Rattle.table_meaning.specs.declared.TableNumbers.{TableNumbers}
+use Rattle.table_meaning.proofs.Any.{invalid-absent}
+use Rattle.table_meaning.proofs.Order.{entries-in-order}
+use Rattle.table_meaning.proofs.Shows.{Shows as TableShows, abm-shows, mft-shows}
 use Rattle.text_meaning.specs.Answer.{Answer as Text·Answer, span}
 use Rattle.text_meaning.specs.Layout.{asciiEnd, unicodeLanguage}
 use Rattle.text_meaning.specs.Mluc.{Localized, recordWords as textWords, recordsIn}

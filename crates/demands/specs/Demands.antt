@@ -30,10 +30,10 @@ use Rattle.text_meaning.specs.Mluc.{Localized, recordWords as textWords, wordsI
 use Rattle.text_meaning.specs.Standard.{TextType, TextDescriptionType, MultiLocalizedUnicodeType, TextTaken, DescriptionTaken, RecordsTaken, unicodeRange}
 use Rattle.small_meaning.specs.Layout.{signatureIn, dateBytes, measurement, conditions, firstXyz, codePoints}
 use Rattle.small_meaning.specs.Standard.{Laid, LaidNine, Always, InProfile, Whole36, SameDate, Accepts, AcceptsOnly}
-use Rattle.table.specs.Answer.{Told, paper as Table·paper}
-use Rattle.table.specs.Order.{Before}
-use Rattle.table.specs.View.{numbersOf, tableBy, storedAt}
-use Rattle.table.specs.declared.TableNumbers.{TableNumbers}
+use Rattle.table_meaning.specs.Answer.{Told, paper as Table·paper}
+use Rattle.table_meaning.specs.Order.{Before}
+use Rattle.table_meaning.specs.View.{numbersOf, tableBy, storedAt}
+use Rattle.table_meaning.specs.declared.TableNumbers.{TableNumbers}
 use Rattle.demands.specs.Readers.{Small, chad, sig, date, meas, view, xyz, cicp, Reader, lut, trc, string, small, Call, Result, numbers, meaning, Outcome, value, default, absent, refused, Library, ends, Promised, says}
 
 -- the bytes of the tag, in lookup tables and text, and of a lone curve

@@ -22,10 +22,10 @@ use Rattle.small_meaning.specs.declared.MeasAnswer.{MeasAnswer}
 use Rattle.small_meaning.specs.declared.SigAnswer.{SigAnswer}
 use Rattle.small_meaning.specs.declared.ViewAnswer.{ViewAnswer}
 use Rattle.small_meaning.specs.declared.XyzAnswer.{XyzAnswer}
-use Rattle.table.specs.Answer.{paper as Table·paper}
-use Rattle.table.specs.View.{tableBy, entryOf}
-use Rattle.table.specs.declared.EntryAnswer.{EntryAnswer}
-use Rattle.table.specs.declared.TableNumbers.{TableNumbers}
+use Rattle.table_meaning.specs.Answer.{paper as Table·paper}
+use Rattle.table_meaning.specs.View.{tableBy, entryOf}
+use Rattle.table_meaning.specs.declared.EntryAnswer.{EntryAnswer}
+use Rattle.table_meaning.specs.declared.TableNumbers.{TableNumbers}
 
 -- `read_chad_tag`, `read_tech_tag`, `read_date_time_tag`, `read_meas_tag`, `read_viewing_conditions`, `read_xyz_tag`, `read_cicp_tag`
 pub data Small : Type 0 where

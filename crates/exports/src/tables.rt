@@ -6,7 +6,7 @@ use table::TableNumbers;
 ghost use lib.ListN.{length};
 ghost use Rattle.curve_told.specs.Layout.{walkOf};
 ghost use Rattle.lut_meaning.specs.Lut.{lutOf, leftOf};
-ghost use Rattle.table.specs.View.{entryOf, tableBy};
+ghost use Rattle.table_meaning.specs.View.{entryOf, tableBy};
 ghost use Rattle.told.specs.Told.{within, Gave, GaveWith};
 ghost use Rattle.lut_told.specs.Layout.{lutTold, entryTold};
 ghost use Rattle.exports.specs.View.{numbersBy};

@@ -7,7 +7,7 @@ use Rattle.fields.specs.Tag.{signatureOf}
 use Rattle.fields.specs.declared.Kind.the-variants.{Mft1, Mft2, Mab, Mba}
 use Rattle.mft.specs.Answer.{Fields}
 use Rattle.lut_meaning.specs.Answer.{Abm, State, Answer}
-use Rattle.table.specs.Answer.{Told as Entry·Told}
+use Rattle.table_meaning.specs.Answer.{Told as Entry·Told}
 use Rattle.told.specs.Told.{Told, value, only, absent}
 
 -- `mft1` and `mft2`: the type, channels, grid points, entries; the matrix; the range of each table

@@ -4,7 +4,7 @@ use lut_meaning::AbmTable;
 use lut_meaning::Lut;
 use lut_meaning::LutAnswer;
 use mft::MftTable;
-use table::EntryAnswer;
+use table_meaning::EntryAnswer;
 use told::ABSENT;
 use told::VALUE;
 ghost use mathlib.Core.Path.{_≡_};
@@ -17,7 +17,7 @@ ghost use Rattle.fields.specs.Tag.{signatureOf};
 ghost use Rattle.fields.specs.declared.Kind.the-variants.{Mft1, Mft2, Mab, Mba};
 ghost use Rattle.lut_meaning.specs.Answer.{paper, tableFrom};
 ghost use Rattle.mft.specs.Answer.{fieldsFrom};
-ghost use Rattle.table.specs.Answer.{paper as Entry·paper};
+ghost use Rattle.table_meaning.specs.Answer.{paper as Entry·paper};
 ghost use Rattle.told.specs.Told.{Gave};
 ghost use Rattle.lut_told.specs.Layout.{mftHead, mftRanges, abmHead, abmParts, lutTold, entryTold};
 

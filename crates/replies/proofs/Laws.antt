@@ -25,9 +25,9 @@ use Rattle.lut_meaning.specs.declared.LutAnswer.{LutAnswer}
 use Rattle.text_meaning.specs.Answer.{paper as Text·paper}
 use Rattle.text_meaning.specs.Text.{stringOf, tagOf as Text·tagOf, Said as Text·Said}
 use Rattle.text_meaning.specs.declared.TextAnswer.{TextAnswer}
-use Rattle.table.specs.Answer.{Told}
-use Rattle.table.specs.View.{tableBy, numbersOf, entryOf}
-use Rattle.table.specs.declared.TableNumbers.{TableNumbers}
+use Rattle.table_meaning.specs.Answer.{Told}
+use Rattle.table_meaning.specs.View.{tableBy, numbersOf, entryOf}
+use Rattle.table_meaning.specs.declared.TableNumbers.{TableNumbers}
 use Rattle.jobs.specs.Stream.{tailOf}
 use Rattle.jobs.specs.declared.StreamIndex.{StreamIndex}
 use Rattle.jobs.specs.declared.StreamJob.{StreamJob}

@@ -11,8 +11,8 @@ use Rattle.curve_meaning.specs.declared.Walk.the-variants.{Crate, Book}
 use Rattle.lut_meaning.specs.Answer.{State, Answer}
 use Rattle.lut_meaning.specs.Lut.{tagOf, lutOf, leftOf}
 use Rattle.text_meaning.specs.Text.{stringOf, leftOf as Text·leftOf}
-use Rattle.table.specs.Answer.{Told}
-use Rattle.table.specs.View.{tableBy, numbersOf, entryOf}
+use Rattle.table_meaning.specs.Answer.{Told}
+use Rattle.table_meaning.specs.View.{tableBy, numbersOf, entryOf}
 use Rattle.jobs.specs.Stream.{tailOf}
 use Rattle.jobs.specs.declared.StreamIndex.{StreamIndex}
 use Rattle.jobs.specs.declared.StreamJob.{StreamJob}

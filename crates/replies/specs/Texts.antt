@@ -4,7 +4,7 @@ use mathlib.Core.List.{List, [], _∷_, _++_}
 use Rattle.lines.specs.Text.{number, numerals, numbers}
 use Rattle.lut_meaning.specs.Answer.{State, Answer as Lut·Answer}
 use Rattle.text_meaning.specs.Answer.{Answer as Text·Answer}
-use Rattle.table.specs.Answer.{Told}
+use Rattle.table_meaning.specs.Answer.{Told}
 use Rattle.plain_replies.specs.Words.{valueWord, absentWord, refusedText}
 use Rattle.replies.specs.Words.{textWord, descWord, mlucWord, mftWord, abmWord, bar}
 

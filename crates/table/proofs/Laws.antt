@@ -21,10 +21,11 @@ use Rattle.lut_meaning.specs.Answer.{stateFrom}
 use Rattle.lut_meaning.specs.declared.AbmTable.{AbmTable}
 use Rattle.lut_meaning.specs.declared.LutAnswer.{LutAnswer}
 use Rattle.mft.specs.declared.MftTable.{MftTable}
-use Rattle.table.specs.Answer.{Told, value, absent}
-use Rattle.table.specs.View.{gridFrom, tableBy, numbersOf, pointAt, entryFrom, entryOf, Appended}
+use Rattle.table_meaning.specs.Answer.{Told, value, absent}
+use Rattle.table_meaning.specs.View.{gridFrom, tableBy, numbersOf, entryFrom, entryOf}
+use Rattle.table_meaning.specs.declared.TableNumbers.{TableNumbers}
+use Rattle.table.specs.Point.{pointAt, Appended}
 use Rattle.table.specs.declared.Point.{Point}
-use Rattle.table.specs.declared.TableNumbers.{TableNumbers}
 
 -- ---- a number with one more digit
 

@@ -1,4 +1,1 @@
-pub mod Answer
-pub mod View
-pub mod Order
-pub mod Cases
+pub mod Point

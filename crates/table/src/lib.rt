@@ -2,34 +2,15 @@
 // is in `entry_at`, which takes the tag and the numbers apart from each other.
 use fields::InTag;
 use lut_meaning::LutAnswer;
+pub use table_meaning::EntryAnswer;
+pub use table_meaning::TableNumbers;
+pub use table_meaning::TableView;
 ghost use mathlib.Core.Path.{_≡_};
-ghost use Prim.Native.Nat.{_-_, _^_, _<_, min};
+ghost use Prim.Native.Nat.{_-_, _^_, _<_};
 ghost use Rattle.lut_meaning.specs.Answer.{stateFrom};
-ghost use Rattle.table.specs.Answer.{paper};
-ghost use Rattle.table.specs.View.{noNumbers, numbersOf, gridFrom, tableBy, pointAt, entryFrom, entryOf, Appended};
-
-// Where the entries of a colour table start in its tag, the bytes of one, the channels, and where the grid bytes stand: one for each of
-// the first sixteen input channels, each `grid_step` behind the one before it. Without a colour table an entry has no bytes.
-pub struct TableNumbers {
-    pub start: InTag,
-    pub entry_size: u8,
-    pub inputs: u8,
-    pub outputs: u8,
-    pub grid_at: InTag,
-    pub grid_step: u8,
-}
-
-// A lent tag and the numbers of its colour table.
-pub struct TableView<'a> {
-    pub tag: &'a [u8],
-    pub numbers: TableNumbers,
-}
-
-// What is read at a grid index: the entry as it is stored, in one byte or two.
-pub enum EntryAnswer {
-    Value(u16),
-    Absent,
-}
+ghost use Rattle.table_meaning.specs.Answer.{paper};
+ghost use Rattle.table_meaning.specs.View.{noNumbers, numbersOf, gridFrom, tableBy, entryFrom, entryOf};
+ghost use Rattle.table.specs.Point.{pointAt, Appended};
 
 // The number of a grid point.
 enum Point {

@@ -1,8 +1,8 @@
 -- `lut_told::tell_entry` meets its contract: the word is the entry, or the status tells that there is none.
 -- Assumes nothing.
 use mathlib.Core.Path.{refl}
-use Rattle.table.specs.Answer.{paper}
-use Rattle.table.specs.declared.EntryAnswer.{EntryAnswer}
+use Rattle.table_meaning.specs.Answer.{paper}
+use Rattle.table_meaning.specs.declared.EntryAnswer.{EntryAnswer}
 use Rattle.lut_told.specs.Layout.{entryTold}
 use Rattle.told.proofs.Telling.{tells}
 use borrow.Author.Needs.{needs}

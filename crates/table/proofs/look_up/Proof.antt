@@ -45,16 +45,16 @@ use denote.Triple.Table.{entered, cited}
 use denote.Triple.Walked.{says, Stays, stay-none, stay-none-slice, walkOf, goes-none, goes-none-slice, Walks, ends-at, walked, walk-meets}
 use denote.Exit.{yes}
 use denote.Triple.Clauses.{ensured, lasts}
-use Rattle.table.specs.Answer.{Told, paper}
-use Rattle.table.specs.View.{tableBy, entryOf}
-use Rattle.table.specs.declared.EntryAnswer.{EntryAnswer}
-use Rattle.table.specs.declared.TableView.{TableView}
-use Rattle.table.proofs.EntryAnswer as S
-use Rattle.table.proofs.EntryAnswer.Laws as S′
-use Rattle.table.proofs.TableNumbers as N
-use Rattle.table.proofs.TableNumbers.Laws as N′
-use Rattle.table.proofs.TableView as T
-use Rattle.table.proofs.TableView.Laws as T′
+use Rattle.table_meaning.specs.Answer.{Told, paper}
+use Rattle.table_meaning.specs.View.{tableBy, entryOf}
+use Rattle.table_meaning.specs.declared.EntryAnswer.{EntryAnswer}
+use Rattle.table_meaning.specs.declared.TableView.{TableView}
+use Rattle.table_meaning.proofs.EntryAnswer as S
+use Rattle.table_meaning.proofs.EntryAnswer.Laws as S′
+use Rattle.table_meaning.proofs.TableNumbers as N
+use Rattle.table_meaning.proofs.TableNumbers.Laws as N′
+use Rattle.table_meaning.proofs.TableView as T
+use Rattle.table_meaning.proofs.TableView.Laws as T′
 use Rattle.table.proofs.entry_at as callee
 use Rattle.table.proofs.entry_at.Symbol as callee-def
 use Rattle.table.proofs.entry_at.Symbol.{name as #table·entry-at}

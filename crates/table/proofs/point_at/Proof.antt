@@ -4,7 +4,8 @@ use borrow.Author.Needs.{needs}
 use Prim.Native.Nat.{_≤_, _<_, _-_, _^_}
 use mathlib.Core.Path.{_≡_}
 use lib.ListN.{length, drop}
-use Rattle.table.specs.View.{gridFrom, pointAt}
+use Rattle.table_meaning.specs.View.{gridFrom}
+use Rattle.table.specs.Point.{pointAt}
 use Rattle.table.proofs.Laws.{go, point-laws, next-fits}
 use Rattle.table.proofs.point_at.Statement.{statement}
 use Rattle.table.proofs.point_at.Tie as tie

@@ -34,12 +34,12 @@ use denote.Triple.Spec.{Meets, tripleOf}
 use denote.Triple.Table.{entered}
 use denote.Triple.Walked.{says, Stays, stay-none, stay-none-slice, walkOf, goes-none, goes-none-slice, Walks, ends-at, walked, walk-meets}
 use denote.Exit.{yes}
-use Rattle.table.specs.declared.TableNumbers.{TableNumbers}
-use Rattle.table.specs.declared.TableView.{TableView}
-use Rattle.table.proofs.TableNumbers as N
-use Rattle.table.proofs.TableNumbers.Laws as N′
-use Rattle.table.proofs.TableView as T
-use Rattle.table.proofs.TableView.Laws as T′
+use Rattle.table_meaning.specs.declared.TableNumbers.{TableNumbers}
+use Rattle.table_meaning.specs.declared.TableView.{TableView}
+use Rattle.table_meaning.proofs.TableNumbers as N
+use Rattle.table_meaning.proofs.TableNumbers.Laws as N′
+use Rattle.table_meaning.proofs.TableView as T
+use Rattle.table_meaning.proofs.TableView.Laws as T′
 use Rattle.table.proofs.view_of.Key.{name as #table·view-of}
 use Rattle.table.proofs.view_of as this
 use Rattle.table.proofs.view_of.Statement as stated

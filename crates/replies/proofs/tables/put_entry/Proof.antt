@@ -1,7 +1,7 @@
 -- `replies::tables::put_entry` meets its contract: the coordinates are there, and each arm writes the text of its answer.
 -- Assumes nothing.
 use borrow.Author.Needs.{needs}
-use Rattle.table.specs.Answer.{paper}
+use Rattle.table_meaning.specs.Answer.{paper}
 use Rattle.lines.proofs.Writing.{joined}
 use Rattle.replies.specs.Reply.{entryAt}
 use Rattle.replies.specs.Texts.{entryText}

@@ -3,9 +3,9 @@ use Prim.Native.Nat.{ℕ}
 use mathlib.Core.Path.{_≡_}
 use mathlib.Core.List.{List, [], _∷_, _++_}
 use lib.ListN.{replicate}
-use Rattle.table.specs.Answer.{Told, value, absent}
-use Rattle.table.specs.View.{noNumbers, tableBy, entryOf}
-use Rattle.table.specs.declared.TableNumbers.{TableNumbers}
+use Rattle.table_meaning.specs.Answer.{Told, value, absent}
+use Rattle.table_meaning.specs.View.{noNumbers, tableBy, entryOf}
+use Rattle.table_meaning.specs.declared.TableNumbers.{TableNumbers}
 
 -- tag, the numbers of the view, index, channel, and the answer
 pub data Case : Type 0 where

@@ -12,7 +12,7 @@ use lib.Dec.{ltb}
 use Rattle.fields.proofs.Choice.{second-holds}
 use Rattle.clut.specs.Table.{Table, product, inGrid, pointOf, numberOf}
 use Rattle.clut.proofs.Grid.{point-below}
-use Rattle.table.specs.Order.{Before}
+use Rattle.table_meaning.specs.Order.{Before}
 
 pub in-order : (gs xs ys : List ℕ) → inGrid gs xs ≡ true → inGrid gs ys ≡ true → Before xs ys → pointOf gs xs < pointOf gs ys
 unfolding Before inGrid pointOf

@@ -27,10 +27,10 @@ use Rattle.lut_meaning.specs.Layout.{inputs, outputs, clutOffset, gridOf}
 use Rattle.lut_meaning.specs.Lut.{tagOf, lutOf}
 use Rattle.lut_meaning.proofs.Accepted.{abm-found, mft-found}
 use Rattle.lut_meaning.proofs.Inside.{lut-inside, mft-inside}
-use Rattle.table.specs.Answer.{value, absent}
-use Rattle.table.specs.View.{gridFrom, tableBy, numbersOf, storedAt, entryFrom, entryOf}
-use Rattle.table.specs.declared.TableNumbers.{TableNumbers}
-use Rattle.table.proofs.Any.{empty-absent}
+use Rattle.table_meaning.specs.Answer.{value, absent}
+use Rattle.table_meaning.specs.View.{gridFrom, tableBy, numbersOf, storedAt, entryFrom, entryOf}
+use Rattle.table_meaning.specs.declared.TableNumbers.{TableNumbers}
+use Rattle.table_meaning.proofs.Any.{empty-absent}
 
 -- ---- the grid
 

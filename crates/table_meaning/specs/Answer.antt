@@ -1,6 +1,6 @@
 -- What is read at a grid index, in numbers.
 use Prim.Native.Nat.{ℕ}
-use Rattle.table.specs.declared.EntryAnswer.{EntryAnswer}
+use Rattle.table_meaning.specs.declared.EntryAnswer.{EntryAnswer}
 
 -- the entry as it is stored, or none
 pub data Told : Type 0 where

@@ -1,6 +1,5 @@
 -- A view of a colour table: what each call must answer.
-use Prim.Native.Nat.{ℕ, zero, suc, _+_, _*_, _-_, _^_, _<_, min}
-use mathlib.Core.Path.{_≡_}
+use Prim.Native.Nat.{ℕ, zero, suc, _+_, _*_, _-_, _^_, min}
 use mathlib.Core.Bool.{cond, _&&_, _||_}
 use mathlib.Core.List.{List, [], _∷_}
 use lib.Dec.{ltb, eqb}
@@ -8,9 +7,8 @@ use lib.ListN.{length, getD}
 use Rattle.fields.specs.Bytes.{u16At}
 use Rattle.clut.specs.Table.{Table, inGrid, pointOf, numberOf}
 use Rattle.lut_meaning.specs.Answer.{State, mft, abm, absent as State·absent, refused}
-use Rattle.table.specs.Answer.{Told, value, absent}
-use Rattle.table.specs.declared.Point.{Point}
-use Rattle.table.specs.declared.TableNumbers.{TableNumbers}
+use Rattle.table_meaning.specs.Answer.{Told, value, absent}
+use Rattle.table_meaning.specs.declared.TableNumbers.{TableNumbers}
 
 -- n grid bytes from a place on, each a step behind the one before it
 unfoldable pub gridFrom : List ℕ → ℕ → ℕ → ℕ → List ℕ
@@ -51,15 +49,3 @@ unfoldable pub entryOf : List ℕ → Table → List ℕ → ℕ → Told
 entryOf t table index channel =
     cond (inGrid (table .grid) index && ltb (pointOf (table .grid) index) (2 ^ 32) && ltb channel (table .outputs))
     (entryFrom t (table .start) (table .size) (numberOf table index channel)) absent
-
--- ---- on the way
-
--- the point that an index names
-unfoldable pub pointAt : List ℕ → List ℕ → Point
-pointAt grid index =
-    cond (inGrid grid index && ltb (pointOf grid index) (2 ^ 32)) (Point.At (pointOf grid index)) Point.Nowhere
-
--- r is a number with one more digit
-pub record Appended (number base digit r : ℕ) : Type 0 where
-  pub is : r ≡ number * base + digit
-  pub low : r < 2 ^ 41

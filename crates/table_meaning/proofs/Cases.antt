@@ -2,8 +2,8 @@
 -- Assumes nothing.
 use mathlib.Core.Path.{refl}
 use Rattle.clut.specs.Table.{product, inGrid, pointOf}
-use Rattle.table.specs.Cases.{All, Holds, cases}
-use Rattle.table.specs.View.{gridFrom, entryFrom, entryOf}
+use Rattle.table_meaning.specs.Cases.{All, Holds, cases}
+use Rattle.table_meaning.specs.View.{gridFrom, entryFrom, entryOf}
 
 pub claim : All cases
 unfolding All Holds entryOf entryFrom gridFrom inGrid product pointOf

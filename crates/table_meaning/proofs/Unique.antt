@@ -5,10 +5,10 @@ use mathlib.Core.List.{List}
 use Prim.Native.Nat.{ℕ}
 use denote.Ref.{RefT}
 use Rattle.fields.proofs.Once.{once}
-use Rattle.table.specs.Answer.{Told, value, absent, paper}
-use Rattle.table.specs.declared.EntryAnswer.{EntryAnswer}
-use Rattle.table.specs.declared.TableNumbers.{TableNumbers}
-use Rattle.table.specs.declared.TableView.{TableView}
+use Rattle.table_meaning.specs.Answer.{Told, value, absent, paper}
+use Rattle.table_meaning.specs.declared.EntryAnswer.{EntryAnswer}
+use Rattle.table_meaning.specs.declared.TableNumbers.{TableNumbers}
+use Rattle.table_meaning.specs.declared.TableView.{TableView}
 
 -- the result that stands for an answer
 abbrev resultFrom : Told → EntryAnswer

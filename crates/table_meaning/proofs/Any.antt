@@ -11,8 +11,8 @@ use lib.ListN.{length}
 use borrow.Author.Tests.{ltb-true, ltb-false}
 use Rattle.fields.proofs.Choice.{each, first-holds, second-holds, neither-left, neither-right}
 use Rattle.clut.specs.Table.{Table, inGrid, pointOf, numberOf}
-use Rattle.table.specs.Answer.{Told, value, absent}
-use Rattle.table.specs.View.{storedAt, entryFrom, entryOf}
+use Rattle.table_meaning.specs.Answer.{Told, value, absent}
+use Rattle.table_meaning.specs.View.{storedAt, entryFrom, entryOf}
 
 module _ (t : List ℕ) (table : Table) (index : List ℕ) (channel : ℕ) where
   pub invalid-absent : inGrid (table .grid) index && ltb channel (table .outputs) ≡ false → entryOf t table index channel ≡ absent

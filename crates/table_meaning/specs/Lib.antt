@@ -1,0 +1,4 @@
+pub mod Answer
+pub mod View
+pub mod Order
+pub mod Cases
