@@ -7,4 +7,4 @@ use Rattle.table_meaning.specs.View.{gridFrom, entryFrom, entryOf}
 
 pub claim : All cases
 unfolding All Holds entryOf entryFrom gridFrom inGrid product pointOf
-claim = (refl, (refl, (refl, (refl, (refl, (refl, (refl, (refl, (refl, (refl, (refl, tt)))))))))))
+claim = (refl, (refl, (refl, (refl, (refl, (refl, (refl, (refl, (refl, (refl, (refl, (refl, (refl, (refl, (refl, tt)))))))))))))))
