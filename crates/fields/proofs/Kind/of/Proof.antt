@@ -2,10 +2,30 @@
 -- Assumes nothing.
 use borrow.Author.Needs.{needs}
 use borrow.Author.Tests.{ne-eqb}
-use mathlib.Core.Path.{sym, ap}
-use Rattle.fields.specs.Tag.{kindOf, kindIn, signatureOf}
+use Prim.Native.Nat.{ℕ}
+use mathlib.Core.Path.{_≡_, refl, sym, ap}
+use mathlib.Core.List.{List, [], _∷_}
+use Rattle.fields.specs.Tag.{kinds, kindOf, kindIn, signatureOf}
+use Rattle.fields.specs.declared.Kind.{Kind}
+use Rattle.fields.specs.declared.Kind.the-variants.{Other}
 use Rattle.fields.proofs.Kind.of.Statement.{statement}
 use Rattle.fields.proofs.Kind.of.Tie as tie
+
+-- the number is the signature of none of the kinds, as the last arm has it: each behind what is known before it
+abbrev Unlike : Type 0 → List Kind → ℕ → Type 0
+Unlike Before [] n = Before
+Unlike Before (k ∷ ks) n = Unlike (Before × (n ≡ signatureOf k → ⊥)) ks n
+
+before : (Before : Type 0) (ks : List Kind) (n : ℕ) → Unlike Before ks n → Before
+before Before [] n h = h
+before Before (k ∷ ks) n h = before (Before × (n ≡ signatureOf k → ⊥)) ks n h .0
+
+none-of : (Before : Type 0) (ks : List Kind) (n : ℕ) → Unlike Before ks n → kindIn ks n ≡ Other
+unfolding kindIn
+none-of Before [] n h = refl
+none-of Before (k ∷ ks) n h =
+    let With : Type 0 = Before × (n ≡ signatureOf k → ⊥) in
+    rw (ne-eqb _ _ (before With ks n h .1)) (none-of With ks n h)
 
 pub of-spec : {M : Type 1} → statement M
 unfolding kindOf kindIn signatureOf
@@ -34,4 +54,4 @@ of-spec =
     (λ c. sym (ap kindOf (c .match .keys14)))
     (λ c. sym (ap kindOf (c .match .keys15)))
     (λ c. sym (ap kindOf (c .match .keys16)))
-    (λ c. simp (ne-eqb _ _ (c .match .rest .0 .0 .0 .0 .0 .0 .0 .0 .0 .0 .0 .0 .0 .0 .0 .1), ne-eqb _ _ (c .match .rest .0 .0 .0 .0 .0 .0 .0 .0 .0 .0 .0 .0 .0 .0 .1), ne-eqb _ _ (c .match .rest .0 .0 .0 .0 .0 .0 .0 .0 .0 .0 .0 .0 .0 .1), ne-eqb _ _ (c .match .rest .0 .0 .0 .0 .0 .0 .0 .0 .0 .0 .0 .0 .1), ne-eqb _ _ (c .match .rest .0 .0 .0 .0 .0 .0 .0 .0 .0 .0 .0 .1), ne-eqb _ _ (c .match .rest .0 .0 .0 .0 .0 .0 .0 .0 .0 .0 .1), ne-eqb _ _ (c .match .rest .0 .0 .0 .0 .0 .0 .0 .0 .0 .1), ne-eqb _ _ (c .match .rest .0 .0 .0 .0 .0 .0 .0 .0 .1), ne-eqb _ _ (c .match .rest .0 .0 .0 .0 .0 .0 .0 .1), ne-eqb _ _ (c .match .rest .0 .0 .0 .0 .0 .0 .1), ne-eqb _ _ (c .match .rest .0 .0 .0 .0 .0 .1), ne-eqb _ _ (c .match .rest .0 .0 .0 .0 .1), ne-eqb _ _ (c .match .rest .0 .0 .0 .1), ne-eqb _ _ (c .match .rest .0 .0 .1), ne-eqb _ _ (c .match .rest .0 .1), ne-eqb _ _ (c .match .rest .1))))
+    (λ c. sym (none-of Unit kinds _ (c .match .rest))))
