@@ -5,7 +5,7 @@ use fields::Entry;
 use jobs::StreamJob;
 ghost use Rattle.curve_meaning.specs.Curve.{trcOf};
 ghost use Rattle.lines.specs.Text.{Wrote};
-ghost use Rattle.plain_replies.specs.Plain.{curveText};
+ghost use Rattle.reply_meaning.specs.Plain.{curveText};
 
 pub(crate) fn answer(profile: &[u8], job: StreamJob, walk: Walk, line: &mut [u8]) -> usize
     ensures { λ r. ⌜ Wrote (now (line .entry)) (now (line .exit)) 0 r (curveText (trcOf walk (job .entries) (now (profile .entry)) (job .offset) (job .size))) ⌝ }

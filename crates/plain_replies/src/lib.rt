@@ -8,8 +8,8 @@ use fields::Refusal;
 use jobs::StreamJob;
 ghost use Rattle.fields.specs.Refusals.{numberOf};
 ghost use Rattle.lines.specs.Text.{Wrote};
-ghost use Rattle.plain_replies.specs.Plain.{plainOf};
-ghost use Rattle.plain_replies.specs.Words.{refusedText};
+ghost use Rattle.reply_meaning.specs.Plain.{plainOf};
+ghost use Rattle.reply_meaning.specs.Words.{refusedText};
 
 // Puts a refusal of any reader.
 pub fn put_refused(line: &mut [u8], why: Refusal) -> usize

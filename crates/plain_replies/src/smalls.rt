@@ -10,7 +10,7 @@ use small_xyz::ViewAnswer;
 use small_xyz::XyzAnswer;
 ghost use Rattle.small_meaning.specs.Small.{chadOf, sigOf, dateOf, measOf, viewOf, xyzOf, cicpOf};
 ghost use Rattle.lines.specs.Text.{Wrote, numerals, numbers};
-ghost use Rattle.plain_replies.specs.Plain.{smallText, measured, viewed};
+ghost use Rattle.reply_meaning.specs.Plain.{smallText, measured, viewed};
 
 pub(crate) fn chad(profile: &[u8], job: StreamJob, line: &mut [u8]) -> usize
     ensures { λ r. ⌜ Wrote (now (line .entry)) (now (line .exit)) 0 r (smallText numerals (chadOf (now (profile .entry)) (job .offset) (job .size))) ⌝ }

@@ -1,6 +1,6 @@
 -- The pieces of a line make the whole, and each way out is a law of what is answered.
 -- Assumes nothing.
-use Prim.Native.Nat.{ℕ, zero, suc, _+_, _-_, _≤_, _<_}
+use Prim.Native.Nat.{ℕ, _+_, _-_, _≤_, _<_}
 use native.Mathlib.Omega.{arith}
 use mathlib.Core.Path.{_≡_, refl, sym, ap, _∙_}
 use mathlib.Core.List.{List, [], _∷_}
@@ -32,25 +32,13 @@ use Rattle.jobs.specs.Stream.{tailOf}
 use Rattle.jobs.specs.declared.StreamIndex.{StreamIndex}
 use Rattle.jobs.specs.declared.StreamJob.{StreamJob}
 use Rattle.jobs.specs.declared.StreamTail.{StreamTail}
-use Rattle.replies.specs.Reply.{markAt, markedFrom, marked, Reply, plain, lutAnswer, lutReply, stringReply, viewReply, viewText, entryAt, replyOf, answerOf, Said}
-use Rattle.plain_replies.specs.Plain.{plainOf}
-use Rattle.plain_replies.specs.Words.{refusedText}
-use Rattle.replies.specs.Texts.{lutText, stringText, lentText}
+use Rattle.reply_meaning.specs.Reply.{markAt, marked, Reply, plain, lutAnswer, lutReply, stringReply, viewReply, viewText, entryAt, replyOf, answerOf, Said}
+use Rattle.reply_meaning.specs.Plain.{plainOf}
+use Rattle.reply_meaning.specs.Words.{refusedText}
+use Rattle.reply_meaning.specs.Texts.{lutText, stringText, lentText}
+use Rattle.reply_meaning.proofs.Marks.{marks-length, mark-is}
 
 -- ---- the words lent are set
-
-marks-length : (i n : ℕ) → length (markedFrom i n) ≡ n
-unfolding markedFrom
-marks-length i zero = refl
-marks-length i (suc n) = ap suc (marks-length (i + 1) n)
-
-mark-is : (i n k : ℕ) → k < n → getD (markedFrom i n) k 0 ≡ markAt (i + k)
-unfolding markedFrom
-mark-is i zero k h = absurd (omega arith)
-mark-is i (suc n) zero h = let e : i ≡ i + 0 = omega arith in ap markAt e
-mark-is i (suc n) (suc k) h =
-    let e : (i + 1) + k ≡ i + suc k = omega arith in
-    mark-is (i + 1) n k (omega arith) ∙ ap markAt e
 
 module _ (n : ℕ) (l : List ℕ) (e : length l ≡ n) where
   pub mark-begins : sets l 0 (drop 0 (marked n)) ≡ marked n
@@ -63,10 +51,6 @@ module _ (n : ℕ) (l : List ℕ) (e : length l ≡ n) where
 
   pub mark-ends : (i : ℕ) → length l ≤ i → sets l i (drop i (marked n)) ≡ marked n → l ≡ marked n
   mark-ends i h w = fill-ends (marked n) l i (omega (arith, marks-length 0 n)) w
-
--- a job has at most 8,192 words, and word k is marked with k
-pub job-mark : (n k : ℕ) → n ≤ 8192 → k < n → getD (marked n) k 0 ≡ 0xA5A50000 + k
-job-mark n k h l = let e : markAt (0 + k) ≡ 0xA5A50000 + k = omega arith in mark-is 0 n k l ∙ e
 
 -- ---- answers with the lent words behind them
 

@@ -10,7 +10,7 @@ use jobs::StreamTail;
 ghost use mathlib.Core.Path.{_≡_};
 ghost use lib.ListN.{length};
 ghost use Rattle.jobs.specs.Stream.{tailOf};
-ghost use Rattle.replies.specs.Reply.{marked, replyOf, answerOf, Said};
+ghost use Rattle.reply_meaning.specs.Reply.{marked, replyOf, answerOf, Said};
 
 // Sets the words lent: word i to 0xA5A50000 + i.
 fn mark(words: &mut [u32])

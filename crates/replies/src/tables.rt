@@ -18,9 +18,9 @@ ghost use Rattle.jobs.specs.Stream.{tailOf};
 ghost use Rattle.jobs.specs.declared.StreamTail.{StreamTail};
 ghost use Rattle.lut_meaning.specs.Answer.{mft as State·mft, abm as State·abm, stateFrom, tableFrom};
 ghost use Rattle.mft.specs.Answer.{fieldsFrom};
-ghost use Rattle.replies.specs.Reply.{entryAt, lutReply, viewReply, viewText, Said};
-ghost use Rattle.replies.specs.Texts.{stateText, entryText};
-ghost use Rattle.replies.specs.Words.{mftWord, abmWord};
+ghost use Rattle.reply_meaning.specs.Reply.{entryAt, lutReply, viewReply, viewText, Said};
+ghost use Rattle.reply_meaning.specs.Texts.{stateText, entryText};
+ghost use Rattle.reply_meaning.specs.Words.{mftWord, abmWord};
 
 fn put_mft_kind(line: &mut [u8], size: u8) -> usize
     ensures { λ r. ⌜ Wrote (now (line .entry)) (now (line .exit)) 0 r (mftWord size) ⌝ }

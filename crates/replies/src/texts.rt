@@ -6,8 +6,8 @@ use text::Description;
 use text::TextAnswer;
 ghost use Rattle.lines.specs.Text.{Wrote};
 ghost use Rattle.text_meaning.specs.Answer.{paper, desc, spanFrom, unicodeFrom};
-ghost use Rattle.replies.specs.Reply.{stringReply, Said};
-ghost use Rattle.replies.specs.Texts.{stringText};
+ghost use Rattle.reply_meaning.specs.Reply.{stringReply, Said};
+ghost use Rattle.reply_meaning.specs.Texts.{stringText};
 
 fn put_description(line: &mut [u8], d: Description) -> usize
     ensures { λ r. ⌜ Wrote (now (line .entry)) (now (line .exit)) 0 r (stringText (desc (spanFrom (d .ascii)) (unicodeFrom d))) ⌝ }

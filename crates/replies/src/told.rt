@@ -1,7 +1,7 @@
 // What the texts of the answers share.
 use fields::InTag;
 ghost use Rattle.lines.specs.Text.{Wrote};
-ghost use Rattle.replies.specs.Texts.{rangeText, lentText};
+ghost use Rattle.reply_meaning.specs.Texts.{rangeText, lentText};
 
 // A start and a length.
 pub(crate) fn put_range(line: &mut [u8], at: usize, start: InTag, length: u64) -> usize

@@ -6,7 +6,7 @@ use native.Mathlib.Omega.{arith}
 use mathlib.Core.Path.{_≡_, refl}
 use lib.ListN.{length, drop, length-set}
 use lib.Seq.{sets}
-use Rattle.replies.specs.Reply.{marked}
+use Rattle.reply_meaning.specs.Reply.{marked}
 use Rattle.replies.proofs.Laws.{mark-begins, mark-turns, mark-ends}
 use Rattle.replies.proofs.mark.Statement.{statement}
 use Rattle.replies.proofs.mark.Tie as tie

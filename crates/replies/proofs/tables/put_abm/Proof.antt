@@ -2,7 +2,7 @@
 -- Assumes nothing.
 use borrow.Author.Needs.{needs}
 use Rattle.lines.proofs.Writing.{joined, wrote-length}
-use Rattle.replies.specs.Texts.{stateText}
+use Rattle.reply_meaning.specs.Texts.{stateText}
 use Rattle.replies.proofs.tables.put_abm.Statement.{statement}
 use Rattle.replies.proofs.tables.put_abm.Tie as tie
 

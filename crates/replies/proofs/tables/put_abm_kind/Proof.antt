@@ -1,7 +1,7 @@
 -- `replies::tables::put_abm_kind` meets its contract: by the direction.
 -- Assumes nothing.
 use borrow.Author.Needs.{needs}
-use Rattle.replies.specs.Words.{abmWord}
+use Rattle.reply_meaning.specs.Words.{abmWord}
 use Rattle.replies.proofs.tables.put_abm_kind.Statement.{statement}
 use Rattle.replies.proofs.tables.put_abm_kind.Tie as tie
 

@@ -1,7 +1,7 @@
 -- `replies::tables::put_answer` meets its contract: each arm writes the text of its answer.
 -- Assumes nothing.
 use borrow.Author.Needs.{needs}
-use Rattle.replies.specs.Texts.{stateText}
+use Rattle.reply_meaning.specs.Texts.{stateText}
 use Rattle.replies.proofs.tables.put_answer.Statement.{statement}
 use Rattle.replies.proofs.tables.put_answer.Tie as tie
 

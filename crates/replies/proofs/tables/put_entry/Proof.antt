@@ -3,8 +3,8 @@
 use borrow.Author.Needs.{needs}
 use Rattle.table_meaning.specs.Answer.{paper}
 use Rattle.lines.proofs.Writing.{joined}
-use Rattle.replies.specs.Reply.{entryAt}
-use Rattle.replies.specs.Texts.{entryText}
+use Rattle.reply_meaning.specs.Reply.{entryAt}
+use Rattle.reply_meaning.specs.Texts.{entryText}
 use Rattle.plain_replies.proofs.Laws.{arm}
 use Rattle.replies.proofs.Laws.{entry-is, tail-room}
 use Rattle.replies.proofs.tables.put_entry.Statement.{statement}

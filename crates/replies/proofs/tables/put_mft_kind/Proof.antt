@@ -2,7 +2,7 @@
 -- Assumes nothing.
 use borrow.Author.Needs.{needs}
 use borrow.Author.Tests.{eq-eqb, ne-eqb}
-use Rattle.replies.specs.Words.{mftWord}
+use Rattle.reply_meaning.specs.Words.{mftWord}
 use Rattle.replies.proofs.tables.put_mft_kind.Statement.{statement}
 use Rattle.replies.proofs.tables.put_mft_kind.Tie as tie
 

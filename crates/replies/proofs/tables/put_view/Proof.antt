@@ -1,7 +1,7 @@
 -- `replies::tables::put_view` meets its contract: each arm writes the text of its answer.
 -- Assumes nothing.
 use borrow.Author.Needs.{needs}
-use Rattle.replies.specs.Reply.{viewText}
+use Rattle.reply_meaning.specs.Reply.{viewText}
 use Rattle.replies.proofs.tables.put_view.Statement.{statement}
 use Rattle.replies.proofs.tables.put_view.Tie as tie
 

@@ -4,7 +4,7 @@ use borrow.Author.Needs.{needs}
 use mathlib.Core.Path.{refl}
 use Rattle.text_meaning.specs.Answer.{paper}
 use Rattle.lines.proofs.Writing.{joined}
-use Rattle.replies.specs.Texts.{stringText}
+use Rattle.reply_meaning.specs.Texts.{stringText}
 use Rattle.plain_replies.proofs.Laws.{arm}
 use Rattle.replies.proofs.texts.put_answer.Statement.{statement}
 use Rattle.replies.proofs.texts.put_answer.Tie as tie

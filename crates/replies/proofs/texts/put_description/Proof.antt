@@ -2,7 +2,7 @@
 -- Assumes nothing.
 use borrow.Author.Needs.{needs}
 use Rattle.lines.proofs.Writing.{joined}
-use Rattle.replies.specs.Texts.{stringText}
+use Rattle.reply_meaning.specs.Texts.{stringText}
 use Rattle.replies.proofs.texts.put_description.Statement.{statement}
 use Rattle.replies.proofs.texts.put_description.Tie as tie
 

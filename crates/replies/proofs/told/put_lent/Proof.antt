@@ -2,7 +2,7 @@
 -- Assumes nothing.
 use borrow.Author.Needs.{needs}
 use Rattle.lines.proofs.Writing.{joined}
-use Rattle.replies.specs.Texts.{lentText}
+use Rattle.reply_meaning.specs.Texts.{lentText}
 use Rattle.replies.proofs.told.put_lent.Statement.{statement}
 use Rattle.replies.proofs.told.put_lent.Tie as tie
 

@@ -2,7 +2,7 @@
 -- Assumes nothing.
 use borrow.Author.Needs.{needs}
 use Rattle.lines.proofs.Writing.{joined}
-use Rattle.replies.specs.Texts.{rangeText}
+use Rattle.reply_meaning.specs.Texts.{rangeText}
 use Rattle.replies.proofs.told.put_range.Statement.{statement}
 use Rattle.replies.proofs.told.put_range.Tie as tie
 

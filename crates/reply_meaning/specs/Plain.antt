@@ -13,7 +13,7 @@ use Rattle.small_meaning.specs.Answer.{Answer as Small·Answer}
 use Rattle.small_meaning.specs.Small.{chadOf, sigOf, dateOf, measOf, viewOf, xyzOf, cicpOf}
 use Rattle.curve_text.specs.CurveLine.{recordText}
 use Rattle.jobs.specs.declared.StreamJob.{StreamJob}
-use Rattle.plain_replies.specs.Words.{valueWord, absentWord, defaultWord, refusedText}
+use Rattle.reply_meaning.specs.Words.{valueWord, absentWord, defaultWord, refusedText}
 
 -- the tone curve: the record's words, the parameters signed, and the consumed size
 unfoldable pub curveText : Curve·Answer → List ℕ

@@ -17,9 +17,9 @@ use Rattle.jobs.specs.Stream.{tailOf}
 use Rattle.jobs.specs.declared.StreamIndex.{StreamIndex}
 use Rattle.jobs.specs.declared.StreamJob.{StreamJob}
 use Rattle.jobs.specs.declared.StreamTail.{StreamTail}
-use Rattle.plain_replies.specs.Plain.{plainOf}
-use Rattle.plain_replies.specs.Words.{absentWord, refusedText}
-use Rattle.replies.specs.Texts.{lutText, stringText, entryText, lentText}
+use Rattle.reply_meaning.specs.Plain.{plainOf}
+use Rattle.reply_meaning.specs.Words.{absentWord, refusedText}
+use Rattle.reply_meaning.specs.Texts.{lutText, stringText, entryText, lentText}
 
 -- the words lent, as they are set before a call: word i is 0xA5A50000 + i, and i is below 8,192
 abbrev pub markAt : ℕ → ℕ

@@ -5,8 +5,7 @@ use Rattle.lines.specs.Text.{number, numerals, numbers}
 use Rattle.lut_meaning.specs.Answer.{State, Answer as Lut·Answer}
 use Rattle.text_meaning.specs.Answer.{Answer as Text·Answer}
 use Rattle.table_meaning.specs.Answer.{Told}
-use Rattle.plain_replies.specs.Words.{valueWord, absentWord, refusedText}
-use Rattle.replies.specs.Words.{textWord, descWord, mlucWord, mftWord, abmWord, bar}
+use Rattle.reply_meaning.specs.Words.{valueWord, absentWord, refusedText, textWord, descWord, mlucWord, mftWord, abmWord, bar}
 
 -- a start and a length
 unfoldable pub rangeText : ℕ → ℕ → List ℕ

@@ -4,7 +4,7 @@ use Prim.Native.Nat.{ℕ}
 use mathlib.Core.Path.{_≡_, sym, _∙_}
 use mathlib.Core.List.{List}
 use Rattle.lines.proofs.Unique.{unique as wrote-once}
-use Rattle.replies.specs.Reply.{Reply, Said}
+use Rattle.reply_meaning.specs.Reply.{Reply, Said}
 
 pub unique : {a : Reply} {before after other left rest : List ℕ} {end stop : ℕ} → Said a before after left end → Said a before other rest stop → (after ≡ other) × (end ≡ stop) × (left ≡ rest)
 unique s t = let w = wrote-once (s .written) (t .written) in (w .0, w .1, s .left-is ∙ sym (t .left-is))
