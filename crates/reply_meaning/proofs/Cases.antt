@@ -12,7 +12,7 @@ use Rattle.table.specs.View.{gridFrom, entryFrom, entryOf}
 use Rattle.small_meaning.specs.Layout.{nineNumbers}
 use Rattle.small_meaning.specs.Order.{foundOf, answerTo}
 use Rattle.small_meaning.specs.Small.{matrixOf, chadOf}
-use Rattle.lines.specs.Text.{digitsOf, decimal, number, numeral, row, numerals}
+use Rattle.lines.specs.Text.{digitsOf, decimal, number, numeral, row, numerals, numbers}
 use Rattle.jobs.specs.Stream.{tailOf}
 use Rattle.reply_meaning.specs.Cases.{All, Holds, cases}
 use Rattle.reply_meaning.specs.Plain.{smallText, plainOf}
@@ -21,5 +21,5 @@ use Rattle.reply_meaning.specs.Texts.{entryText}
 use Rattle.reply_meaning.specs.Words.{refusedText}
 
 pub claim : All cases
-unfolding All Holds answerOf replyOf markedFrom tailOf plainOf smallText viewText entryText entryAt refusedText numerals row numeral number decimal digitsOf foundOf answerTo chadOf matrixOf nineNumbers lutOf byType isMft isWide mftOf numbersOf badNumbers badEntries badChannels outside tablesOf fieldsOf mftAnswer entrySize tablesStart entriesAt colourTable product entryOf entryFrom gridFrom inGrid pointOf wordsAt signatureOf
+unfolding All Holds answerOf replyOf markedFrom tailOf plainOf smallText viewText entryText entryAt refusedText numerals numbers row numeral number decimal digitsOf foundOf answerTo chadOf matrixOf nineNumbers lutOf byType isMft isWide mftOf numbersOf badNumbers badEntries badChannels outside tablesOf fieldsOf mftAnswer entrySize tablesStart entriesAt colourTable product entryOf entryFrom gridFrom inGrid pointOf wordsAt signatureOf
 claim = (refl, (refl, (refl, (refl, tt))))
