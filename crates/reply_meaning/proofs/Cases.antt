@@ -8,7 +8,7 @@ use Rattle.mft.specs.Answer.{fieldsOf, answerOf as mftAnswer}
 use Rattle.mft.specs.Layout.{isWide, isMft, entrySize, tablesStart, entriesAt, colourTable}
 use Rattle.mft.specs.Mft.{outside, badEntries, badChannels, badNumbers, tablesOf, numbersOf, mftOf}
 use Rattle.lut_meaning.specs.Lut.{byType, lutOf}
-use Rattle.table.specs.View.{gridFrom, entryFrom, entryOf}
+use Rattle.table_meaning.specs.View.{gridFrom, entryFrom, entryOf}
 use Rattle.small_meaning.specs.Layout.{nineNumbers}
 use Rattle.small_meaning.specs.Order.{foundOf, answerTo}
 use Rattle.small_meaning.specs.Small.{matrixOf, chadOf}
