@@ -11,7 +11,7 @@ use Rattle.curve_meaning.specs.Cases.{signedParameters}
 use Rattle.curve_meaning.specs.Curve.{trcOf, curveOf, tableOf as curvOf, paraOf, divides}
 use Rattle.curve_meaning.specs.Layout.{parameterCount}
 use Rattle.curve_meaning.specs.Shape.{sizeOf, stepOf, wordsOf}
-use Rattle.mft.specs.Layout.{isWide, isMft}
+use Rattle.mft_meaning.specs.Layout.{isWide, isMft}
 use Rattle.run.specs.Run.{Each, raised, entryAt, runAt, recordsOf}
 use Rattle.lut_meaning.specs.Abm.{tableOf, valueFrom, recordedOf, judgedOf, abmOf}
 use Rattle.lut_meaning.specs.Layout.{present, deviceChannels, spaceChannels, aCurves, mCurves, bCurves, planOf, recordsNeeded, gridOf, matrixOf, biasOf}

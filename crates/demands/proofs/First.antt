@@ -12,7 +12,7 @@ use Rattle.curve_meaning.specs.declared.Walk.{Walk}
 use Rattle.curve_meaning.proofs.Inside.{accepted-inside}
 use Rattle.run.specs.Run.{dataEnd}
 use Rattle.run.proofs.Records.{words-end}
-use Rattle.mft.specs.Answer.{Fields}
+use Rattle.mft_meaning.specs.Answer.{Fields}
 use Rattle.lut_meaning.specs.Abm.{toldTable as Abm·toldTable}
 use Rattle.lut_meaning.specs.Answer.{mft, abm, Abm, Answer as Lut·Answer}
 use Rattle.lut_meaning.proofs.Inside.{lut-inside, mft-inside as mft-in-tag}

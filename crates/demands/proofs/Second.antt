@@ -18,8 +18,8 @@ use Rattle.curve_meaning.proofs.Conforms.{lone-accepted, laid as curve-laid-out
 use Rattle.curve_meaning.proofs.Inside.{accepted-inside}
 use Rattle.curve_meaning.proofs.Unique.{unique as curve-unique}
 use Rattle.run.specs.Run.{Placed}
-use Rattle.mft.specs.Answer.{Fields, answerOf, toldTable as Mft·toldTable}
-use Rattle.mft.specs.Standard.{LaidOut as MftLaidOut, Asked as MftAsked}
+use Rattle.mft_meaning.specs.Answer.{Fields, answerOf, toldTable as Mft·toldTable}
+use Rattle.mft_meaning.specs.Standard.{LaidOut as MftLaidOut, Asked as MftAsked}
 use Rattle.lut_meaning.specs.Abm.{toldTable as Abm·toldTable, valueFrom}
 use Rattle.lut_meaning.specs.Answer.{mft, abm, Abm, Answer as Lut·Answer}
 use Rattle.lut_meaning.specs.Layout.{planOf, aCurves, mCurves, bCurves, recordsNeeded}

@@ -17,9 +17,9 @@ use Rattle.curve_meaning.specs.Standard.{Laid as CurveLaid, Within as CurveWith
 use Rattle.curve_meaning.specs.declared.Walk.{Walk}
 use Rattle.curve_meaning.specs.declared.Walk.the-variants.{Book}
 use Rattle.run.specs.Run.{Placed, recordsOf, dataEnd}
-use Rattle.mft.specs.Answer.{Fields, fieldsOf, toldTable as Mft·toldTable}
-use Rattle.mft.specs.Layout.{matrixOf as Mft·matrixOf}
-use Rattle.mft.specs.Standard.{LaidOut as MftLaidOut, Asked as MftAsked}
+use Rattle.mft_meaning.specs.Answer.{Fields, fieldsOf, toldTable as Mft·toldTable}
+use Rattle.mft_meaning.specs.Layout.{matrixOf as Mft·matrixOf}
+use Rattle.mft_meaning.specs.Standard.{LaidOut as MftLaidOut, Asked as MftAsked}
 use Rattle.lut_meaning.specs.Abm.{toldTable as Abm·toldTable, valueFrom}
 use Rattle.lut_meaning.specs.Answer.{mft, abm, Abm}
 use Rattle.lut_meaning.specs.Layout.{matrixOffset, aCurves, mCurves, bCurves, recordsNeeded}

@@ -25,12 +25,12 @@ use Rattle.clut.specs.declared.ClutAnswer.{ClutAnswer}
 use Rattle.clut.specs.declared.ColourTable.{ColourTable}
 use Rattle.curve_meaning.specs.Shape.{recordWords}
 use Rattle.curve_meaning.specs.declared.Walk.{Walk}
-use Rattle.mft.specs.Answer.{State as Mft·State, fieldsFrom, answerOf, paper as Mft·paper}
-use Rattle.mft.specs.Layout.{isMft}
-use Rattle.mft.specs.Mft.{mftOf}
-use Rattle.mft.specs.declared.Mft.{Mft}
-use Rattle.mft.specs.declared.MftAnswer.{MftAnswer}
-use Rattle.mft.specs.declared.MftTable.{MftTable}
+use Rattle.mft_meaning.specs.Answer.{State as Mft·State, fieldsFrom, answerOf, paper as Mft·paper}
+use Rattle.mft_meaning.specs.Layout.{isMft}
+use Rattle.mft_meaning.specs.Mft.{mftOf}
+use Rattle.mft_meaning.specs.declared.Mft.{Mft}
+use Rattle.mft_meaning.specs.declared.MftAnswer.{MftAnswer}
+use Rattle.mft_meaning.specs.declared.MftTable.{MftTable}
 use Rattle.run.specs.Run.{recordsOf}
 use Rattle.lut_meaning.specs.Abm.{tableOf, valueFrom, recordedOf, judgedOf, withTable, abmOf}
 use Rattle.lut_meaning.specs.Answer.{mft, abm, refused, Answer, none, refuse, mftState, fromMft, paper, leftBy}

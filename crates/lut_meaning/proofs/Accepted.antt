@@ -19,9 +19,9 @@ use Rattle.clut.specs.Clut.{Seen, is, no}
 use Rattle.clut.specs.Table.{Table, lengthOf}
 use Rattle.curve_meaning.specs.Shape.{recordWords}
 use Rattle.curve_meaning.specs.declared.Walk.{Walk}
-use Rattle.mft.specs.Answer.{Fields, State as Mft·State, answerOf}
-use Rattle.mft.specs.Layout.{isMft}
-use Rattle.mft.specs.Mft.{mftOf}
+use Rattle.mft_meaning.specs.Answer.{Fields, State as Mft·State, answerOf}
+use Rattle.mft_meaning.specs.Layout.{isMft}
+use Rattle.mft_meaning.specs.Mft.{mftOf}
 use Rattle.lut_meaning.specs.Abm.{tableOf, valueFrom, recordedOf, judgedOf, withTable, abmOf}
 use Rattle.lut_meaning.specs.Answer.{Abm, State, mft, abm, absent, refused, Answer, fromMft, orRefused}
 use Rattle.lut_meaning.specs.Layout.{inputs, outputs, planOf, recordsNeeded}

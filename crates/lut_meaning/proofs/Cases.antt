@@ -7,7 +7,7 @@ use Rattle.clut.specs.Table.{product}
 use Rattle.curve_meaning.specs.Curve.{curveOf, tableOf as curvOf, paraOf, divides}
 use Rattle.curve_meaning.specs.Layout.{parameterCount}
 use Rattle.curve_meaning.specs.Shape.{sizeOf, stepOf, wordsOf}
-use Rattle.mft.specs.Layout.{isWide, isMft}
+use Rattle.mft_meaning.specs.Layout.{isWide, isMft}
 use Rattle.run.specs.Run.{raised, entryAt, runAt, recordsOf}
 use Rattle.lut_meaning.specs.Abm.{tableOf, valueFrom, recordedOf, judgedOf, abmOf}
 use Rattle.lut_meaning.specs.Cases.{All, Holds, cases}

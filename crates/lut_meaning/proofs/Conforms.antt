@@ -24,9 +24,9 @@ use Rattle.curve_meaning.specs.declared.Walk.{Walk}
 use Rattle.curve_meaning.specs.declared.Walk.the-variants.{Book}
 use Rattle.curve_meaning.proofs.Conforms.{accepted as curve-accepted, laid as curve-laid}
 use Rattle.curve_meaning.proofs.Inside.{curve-inside, size-least, book-step}
-use Rattle.mft.specs.Answer.{Fields, State as Mft·State, answerOf, fieldsOf}
-use Rattle.mft.specs.Standard.{LaidOut as MftLaidOut, Asked as MftAsked}
-use Rattle.mft.proofs.Conforms.{start-least, start-before, type-known, conforms as mft-accepted, Accepted as MftAccepted, accepted as accepted-mft}
+use Rattle.mft_meaning.specs.Answer.{Fields, State as Mft·State, answerOf, fieldsOf}
+use Rattle.mft_meaning.specs.Standard.{LaidOut as MftLaidOut, Asked as MftAsked}
+use Rattle.mft_meaning.proofs.Conforms.{start-least, start-before, type-known, conforms as mft-accepted, Accepted as MftAccepted, accepted as accepted-mft}
 use Rattle.run.specs.Run.{Placed, whole, raised, entryAt, runAt, endOf, Each}
 use Rattle.run.proofs.Runs.{entry-there, Reads, run-reads, reads-run, run-count}
 use Rattle.lut_meaning.specs.Abm.{noTable, tableOf, valueFrom, recordedOf, judgedOf, abmOf}

@@ -21,8 +21,8 @@ use Rattle.clut.proofs.Grid.{entry-below}
 use Rattle.clut.proofs.Inside.{inside}
 use Rattle.curve_meaning.specs.Shape.{recordWords}
 use Rattle.curve_meaning.specs.declared.Walk.{Walk}
-use Rattle.mft.specs.Answer.{Fields}
-use Rattle.mft.proofs.Inside.{Inside as MftInside, inside as inside-mft}
+use Rattle.mft_meaning.specs.Answer.{Fields}
+use Rattle.mft_meaning.proofs.Inside.{Inside as MftInside, inside as inside-mft}
 use Rattle.run.specs.Run.{Placed, endOf, recordsOf, dataEnd, Each}
 use Rattle.run.proofs.Records.{records-end}
 use Rattle.run.proofs.Runs.{run-inside}

@@ -18,10 +18,10 @@ use Rattle.clut.specs.Clut.{Seen, is, no}
 use Rattle.clut.specs.Table.{lengthOf}
 use Rattle.curve_meaning.specs.Shape.{recordWords}
 use Rattle.curve_meaning.specs.declared.Walk.{Walk}
-use Rattle.mft.specs.Answer.{State as Mft·State, answerOf}
-use Rattle.mft.specs.Layout.{isMft}
-use Rattle.mft.specs.Mft.{mftOf}
-use Rattle.mft.proofs.More.{Is as MftIs, more-limit as mft-limit}
+use Rattle.mft_meaning.specs.Answer.{State as Mft·State, answerOf}
+use Rattle.mft_meaning.specs.Layout.{isMft}
+use Rattle.mft_meaning.specs.Mft.{mftOf}
+use Rattle.mft_meaning.proofs.More.{Is as MftIs, more-limit as mft-limit}
 use Rattle.run.specs.Run.{End, whole, stopped, Ran, runAt, recordsOf}
 use Rattle.run.proofs.Limit.{Over, run-limit}
 use Rattle.lut_meaning.specs.Abm.{tableOf, recordedOf, judgedOf, withTable, abmOf}

@@ -12,7 +12,7 @@ use Rattle.fields.specs.Tag.{signatureOf}
 use Rattle.fields.specs.declared.Kind.the-variants.{Mab, Mba}
 use Rattle.curve_meaning.specs.Shape.{recordWords}
 use Rattle.curve_meaning.specs.declared.Walk.{Walk}
-use Rattle.mft.specs.Layout.{isWide, isMft}
+use Rattle.mft_meaning.specs.Layout.{isWide, isMft}
 use Rattle.run.specs.Run.{End, whole, stopped, Ran, runAt, recordsOf}
 use Rattle.run.proofs.Runs.{run-count}
 use Rattle.run.proofs.Writing.{records-length, records-append}

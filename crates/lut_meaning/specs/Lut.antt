@@ -10,9 +10,9 @@ use Rattle.fields.specs.Place.{tagAt, countedSize}
 use Rattle.fields.specs.Tag.{signatureOf}
 use Rattle.fields.specs.declared.Kind.the-variants.{Mab, Mba}
 use Rattle.curve_meaning.specs.declared.Walk.{Walk}
-use Rattle.mft.specs.Answer.{answerOf}
-use Rattle.mft.specs.Layout.{isMft}
-use Rattle.mft.specs.Mft.{mftOf}
+use Rattle.mft_meaning.specs.Answer.{answerOf}
+use Rattle.mft_meaning.specs.Layout.{isMft}
+use Rattle.mft_meaning.specs.Mft.{mftOf}
 use Rattle.run.specs.Run.{recordsOf}
 use Rattle.lut_meaning.specs.Abm.{abmOf}
 use Rattle.lut_meaning.specs.Answer.{Answer, refuse, fromMft, paper, leftBy}

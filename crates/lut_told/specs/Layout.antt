@@ -5,7 +5,7 @@ use mathlib.Core.List.{List, [], _∷_, _++_}
 use lib.Dec.{eqb}
 use Rattle.fields.specs.Tag.{signatureOf}
 use Rattle.fields.specs.declared.Kind.the-variants.{Mft1, Mft2, Mab, Mba}
-use Rattle.mft.specs.Answer.{Fields}
+use Rattle.mft_meaning.specs.Answer.{Fields}
 use Rattle.lut_meaning.specs.Answer.{Abm, State, Answer}
 use Rattle.table_meaning.specs.Answer.{Told as Entry·Told}
 use Rattle.told.specs.Told.{Told, value, only, absent}

@@ -3,7 +3,7 @@
 use Prim.Native.Nat.{ℕ, _+_, _*_, _^_, _≤_, _<_}
 use native.Mathlib.Omega.{arith}
 use native.Mathlib.Numerals.{add-one}
-use native.Mathlib.Nat.{le-trans, mul-le-mul, pow-zero, pow-suc, pow-le-pow-left, pow-le-pow-right}
+use native.Mathlib.Nat.{mul-le-mul, pow-zero, pow-suc}
 use mathlib.Core.Path.{_≡_, refl, sym, _∙_}
 use mathlib.Core.Bool.{Bool, true, false, not, _||_}
 use mathlib.Core.List.{List}
@@ -20,11 +20,13 @@ use Rattle.fields.specs.Tag.{signatureOf}
 use Rattle.fields.specs.declared.Kind.the-variants.{Mft1}
 use Rattle.fields.specs.declared.Refusal.{Refusal}
 use Rattle.fields.proofs.Choice.{neither-left, neither-right}
-use Rattle.mft.specs.Answer.{State, value, refused, stateFrom, fieldsOf, answerOf}
-use Rattle.mft.specs.Layout.{isWide, isMft, inputs, outputs, gridPoints, inputEntries, outputEntries, entrySize, tablesStart, entriesAt, colourTable, Sized}
-use Rattle.mft.specs.Mft.{outside, badEntries, badChannels, badNumbers, tablesOf, numbersOf, mftOf}
-use Rattle.mft.specs.declared.MftAnswer.{MftAnswer}
-use Rattle.mft.specs.declared.MftTable.{MftTable}
+use Rattle.mft_meaning.specs.Answer.{State, value, refused, stateFrom, fieldsOf, answerOf}
+use Rattle.mft_meaning.specs.Layout.{isWide, isMft, inputs, outputs, gridPoints, inputEntries, outputEntries, entrySize, tablesStart, entriesAt, colourTable}
+use Rattle.mft_meaning.specs.Mft.{outside, badEntries, badChannels, badNumbers, tablesOf, numbersOf, mftOf}
+use Rattle.mft_meaning.specs.declared.MftAnswer.{MftAnswer}
+use Rattle.mft_meaning.specs.declared.MftTable.{MftTable}
+use Rattle.mft_meaning.proofs.Inside.{power-most}
+use Rattle.mft.specs.Sized.{Sized}
 
 -- ---- what the type decides
 
@@ -122,13 +124,6 @@ module _ (t : List ℕ) (b : Bool) (e : b ≡ badEntries t) where
 pub ruleset number-laws = (numbers-entries, numbers-channels, numbers-grid)
 
 -- ---- products and sums
-
--- a grid byte to the power of at most four channels
-pub power-most : (g n : ℕ) → g < 256 → n ≤ 4 → g ^ n ≤ 255 ^ 4
-power-most g n l m =
-    let a : g ≤ 255 = omega arith in
-    let b : 0 < 255 = omega arith in
-    le-trans (pow-le-pow-left a n) (pow-le-pow-right b m)
 
 module _ (g p i : ℕ) (e : p ≡ g ^ i) where
   pub power-turns : p * g ≡ g ^ (i + 1)

@@ -1,4 +1,1 @@
-pub mod Layout
-pub mod Answer
-pub mod Mft
-pub mod Standard
+pub mod Sized

@@ -2,40 +2,16 @@
 use fields::InTag;
 use fields::Kind;
 use fields::Refusal;
+pub use mft_meaning::Mft;
+pub use mft_meaning::MftAnswer;
+pub use mft_meaning::MftTable;
 ghost use mathlib.Core.Path.{_≡_};
 ghost use Prim.Native.Nat.{_*_, _^_, _≤_};
 ghost use Rattle.clut.specs.Table.{pointsOf};
-ghost use Rattle.mft.specs.Answer.{paper, stateFrom, answerOf};
-ghost use Rattle.mft.specs.Layout.{isWide, isMft, entriesAt, entrySize, tablesStart, colourTable, Sized};
-ghost use Rattle.mft.specs.Mft.{outside, badEntries, badChannels, badNumbers, tablesOf, numbersOf, mftOf};
-
-// What an `mft1` or `mft2` tag says: the bytes of an entry (1 in `mft1`, 2 in `mft2`), its channels, the grid points of each dimension, how
-// many entries a channel has in the input table and in the output table, and where its three tables lie.
-pub struct MftTable {
-    pub entry_size: u8,
-    pub inputs: u8,
-    pub outputs: u8,
-    pub grid: u8,
-    pub input_entries: u16,
-    pub output_entries: u16,
-    pub input_start: InTag,
-    pub input_length: u64,
-    pub clut_start: InTag,
-    pub clut_length: u64,
-    pub output_start: InTag,
-    pub output_length: u64,
-}
-
-pub enum MftAnswer {
-    Value(MftTable),
-    Refused(Refusal),
-}
-
-// The answer, and beside it the nine numbers of the matrix, signed words in two's complement: zeros unless the answer is a value.
-pub struct Mft {
-    pub answer: MftAnswer,
-    pub matrix: [u32; 9],
-}
+ghost use Rattle.mft_meaning.specs.Answer.{paper, stateFrom, answerOf};
+ghost use Rattle.mft_meaning.specs.Layout.{isWide, isMft, entriesAt, entrySize, tablesStart, colourTable};
+ghost use Rattle.mft_meaning.specs.Mft.{outside, badEntries, badChannels, badNumbers, tablesOf, numbersOf, mftOf};
+ghost use Rattle.mft.specs.Sized.{Sized};
 
 // Whether the tag is `mft2`.
 fn is_wide(tag: &[u8]) -> bool

@@ -4,9 +4,9 @@ use mathlib.Core.Path.{refl}
 use Rattle.fields.specs.Bytes.{wordsAt}
 use Rattle.fields.specs.Tag.{signatureOf}
 use Rattle.clut.specs.Table.{product, inGrid, pointOf}
-use Rattle.mft.specs.Answer.{fieldsOf, answerOf as mftAnswer}
-use Rattle.mft.specs.Layout.{isWide, isMft, entrySize, tablesStart, entriesAt, colourTable}
-use Rattle.mft.specs.Mft.{outside, badEntries, badChannels, badNumbers, tablesOf, numbersOf, mftOf}
+use Rattle.mft_meaning.specs.Answer.{fieldsOf, answerOf as mftAnswer}
+use Rattle.mft_meaning.specs.Layout.{isWide, isMft, entrySize, tablesStart, entriesAt, colourTable}
+use Rattle.mft_meaning.specs.Mft.{outside, badEntries, badChannels, badNumbers, tablesOf, numbersOf, mftOf}
 use Rattle.lut_meaning.specs.Lut.{byType, lutOf}
 use Rattle.table_meaning.specs.View.{gridFrom, entryFrom, entryOf}
 use Rattle.small_meaning.specs.Layout.{nineNumbers}

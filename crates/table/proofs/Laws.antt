@@ -20,7 +20,7 @@ use Rattle.fields.specs.declared.InTag.{InTag}
 use Rattle.lut_meaning.specs.Answer.{stateFrom}
 use Rattle.lut_meaning.specs.declared.AbmTable.{AbmTable}
 use Rattle.lut_meaning.specs.declared.LutAnswer.{LutAnswer}
-use Rattle.mft.specs.declared.MftTable.{MftTable}
+use Rattle.mft_meaning.specs.declared.MftTable.{MftTable}
 use Rattle.table_meaning.specs.Answer.{Told, value, absent}
 use Rattle.table_meaning.specs.View.{gridFrom, tableBy, numbersOf, entryFrom, entryOf}
 use Rattle.table_meaning.specs.declared.TableNumbers.{TableNumbers}

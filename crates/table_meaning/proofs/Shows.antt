@@ -18,9 +18,9 @@ use Rattle.clut.specs.Clut.{is, clutOf}
 use Rattle.clut.specs.Table.{Table, lengthOf, inGrid, pointOf, numberOf}
 use Rattle.clut.proofs.Conforms.{Accepted, accepted}
 use Rattle.curve_meaning.specs.declared.Walk.{Walk}
-use Rattle.mft.specs.Answer.{Fields, fieldsOf, toldTable as Mft·toldTable}
-use Rattle.mft.specs.Layout.{isWide, entrySize}
-use Rattle.mft.proofs.Conforms.{accepted as Mft·accepted}
+use Rattle.mft_meaning.specs.Answer.{Fields, fieldsOf, toldTable as Mft·toldTable}
+use Rattle.mft_meaning.specs.Layout.{isWide, entrySize}
+use Rattle.mft_meaning.proofs.Conforms.{accepted as Mft·accepted}
 use Rattle.lut_meaning.specs.Abm.{noTable, tableOf, valueFrom, toldTable}
 use Rattle.lut_meaning.specs.Answer.{Abm, State, Answer, mft, abm, absent as State·absent, refused}
 use Rattle.lut_meaning.specs.Layout.{inputs, outputs, clutOffset, gridOf}

@@ -1,7 +1,7 @@
 -- `lut_told::put_mft` meets its contract: each part stands behind the one before it.
 -- Assumes nothing.
 use mathlib.Core.Path.{refl}
-use Rattle.mft.specs.Answer.{fieldsFrom}
+use Rattle.mft_meaning.specs.Answer.{fieldsFrom}
 use Rattle.lut_told.specs.Layout.{mftHead, mftRanges}
 use Rattle.told.proofs.Putting.{three-rows}
 use borrow.Author.Needs.{needs}

@@ -4,7 +4,7 @@ use Prim.Native.Nat.{ℕ}
 use mathlib.Core.Path.{ap}
 use lib.Dec.{eqb}
 use Rattle.fields.specs.Tag.{signatureOf}
-use Rattle.mft.specs.Layout.{isWide}
+use Rattle.mft_meaning.specs.Layout.{isWide}
 use borrow.Author.Needs.{needs}
 use Rattle.mft.proofs.is_wide.Statement.{statement}
 use Rattle.mft.proofs.is_wide.Tie as tie

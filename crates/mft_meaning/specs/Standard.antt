@@ -8,7 +8,7 @@ use Rattle.clut.specs.Table.{pointsOf}
 use Rattle.fields.specs.Bytes.{u32At}
 use Rattle.fields.specs.Tag.{signatureOf}
 use Rattle.fields.specs.declared.Kind.the-variants.{Mft1, Mft2}
-use Rattle.mft.specs.Layout.{inputs, outputs, gridPoints, inputEntries, outputEntries, colourTable, tablesEnd}
+use Rattle.mft_meaning.specs.Layout.{inputs, outputs, gridPoints, inputEntries, outputEntries, colourTable, tablesEnd}
 
 -- the tag has one of the two types, holds the numbers that its tables need, and these lie in it; a channel has 2 to 4,096 entries in the input
 -- table and in the output table

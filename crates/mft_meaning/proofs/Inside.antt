@@ -3,18 +3,17 @@
 -- Assumes nothing.
 use Prim.Native.Nat.{ℕ, _+_, _*_, _^_, _≤_, _<_}
 use native.Mathlib.Omega.{arith}
-use native.Mathlib.Nat.{mul-le-mul}
+use native.Mathlib.Nat.{le-trans, mul-le-mul, pow-le-pow-left, pow-le-pow-right}
 use mathlib.Core.Path.{_≡_, refl}
 use mathlib.Core.Bool.{Bool, true, false, cond}
 use mathlib.Core.List.{List}
 use lib.ListN.{length}
 use Rattle.clut.specs.Table.{pointsOf, lengthOf, inGrid, numberOf}
 use Rattle.clut.proofs.Grid.{entry-below, power-is}
-use Rattle.mft.specs.Answer.{Fields, value, fieldsOf, toldTable}
-use Rattle.mft.specs.Layout.{isWide, inputs, outputs, gridPoints, entrySize, colourTable}
-use Rattle.mft.specs.Mft.{mftOf}
-use Rattle.mft.proofs.Conforms.{accepted, start-least}
-use Rattle.mft.proofs.Laws.{power-most}
+use Rattle.mft_meaning.specs.Answer.{Fields, value, fieldsOf, toldTable}
+use Rattle.mft_meaning.specs.Layout.{isWide, inputs, outputs, gridPoints, entrySize, colourTable}
+use Rattle.mft_meaning.specs.Mft.{mftOf}
+use Rattle.mft_meaning.proofs.Conforms.{accepted, start-least}
 
 pub record Inside (t : List ℕ) (f : Fields) : Type 0 where
   pub matrix-in-tag : 12 + 4 * 9 ≤ length t
@@ -41,6 +40,13 @@ inside limit t f h =
     }
 
 -- ---- widths
+
+-- a grid byte to the power of at most four channels
+pub power-most : (g n : ℕ) → g < 256 → n ≤ 4 → g ^ n ≤ 255 ^ 4
+power-most g n l m =
+    let a : g ≤ 255 = omega arith in
+    let b : 0 < 255 = omega arith in
+    le-trans (pow-le-pow-left a n) (pow-le-pow-right b m)
 
 size-most : (t : List ℕ) → entrySize t ≤ 2
 unfolding entrySize

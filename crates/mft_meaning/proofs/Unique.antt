@@ -3,10 +3,10 @@
 use mathlib.Core.Path.{_≡_, refl, ap}
 use Rattle.fields.proofs.Numbers.{nameOf, named}
 use Rattle.fields.proofs.Once.{once}
-use Rattle.mft.specs.Answer.{Fields, State, value, refused, Answer, stateFrom, paper}
-use Rattle.mft.specs.declared.Mft.{Mft}
-use Rattle.mft.specs.declared.MftAnswer.{MftAnswer}
-use Rattle.mft.specs.declared.MftTable.{MftTable}
+use Rattle.mft_meaning.specs.Answer.{Fields, State, value, refused, Answer, stateFrom, paper}
+use Rattle.mft_meaning.specs.declared.Mft.{Mft}
+use Rattle.mft_meaning.specs.declared.MftAnswer.{MftAnswer}
+use Rattle.mft_meaning.specs.declared.MftTable.{MftTable}
 
 -- the result that stands for an answer
 abbrev pub tableFrom : Fields → MftTable

@@ -15,10 +15,10 @@ use Rattle.fields.specs.Bytes.{u32At}
 use Rattle.fields.specs.Tag.{signatureOf}
 use Rattle.fields.specs.declared.Kind.the-variants.{Mft1, Mft2}
 use Rattle.fields.proofs.Choice.{each, neither-left, neither-right}
-use Rattle.mft.specs.Answer.{Fields, State, value, refused, fieldsOf}
-use Rattle.mft.specs.Layout.{isWide, isMft, inputs, outputs, gridPoints, inputEntries, outputEntries, tablesStart, colourTable, tablesEnd}
-use Rattle.mft.specs.Mft.{outside, badEntries, badChannels, badNumbers, tablesOf, numbersOf, mftOf}
-use Rattle.mft.specs.Standard.{LaidOut, Asked}
+use Rattle.mft_meaning.specs.Answer.{Fields, State, value, refused, fieldsOf}
+use Rattle.mft_meaning.specs.Layout.{isWide, isMft, inputs, outputs, gridPoints, inputEntries, outputEntries, tablesStart, colourTable, tablesEnd}
+use Rattle.mft_meaning.specs.Mft.{outside, badEntries, badChannels, badNumbers, tablesOf, numbersOf, mftOf}
+use Rattle.mft_meaning.specs.Standard.{LaidOut, Asked}
 
 -- ---- what is laid out so is accepted
 

@@ -11,9 +11,9 @@ use lib.ListN.{length}
 use borrow.Author.Tests.{ltb-false, le-ltb}
 use Rattle.clut.specs.Table.{pointsOf}
 use Rattle.fields.proofs.Grow.{Grows, choose, passes}
-use Rattle.mft.specs.Answer.{State, refused}
-use Rattle.mft.specs.Layout.{isMft, colourTable, tablesStart}
-use Rattle.mft.specs.Mft.{badNumbers, numbersOf, mftOf}
+use Rattle.mft_meaning.specs.Answer.{State, refused}
+use Rattle.mft_meaning.specs.Layout.{isMft, colourTable, tablesStart}
+use Rattle.mft_meaning.specs.Mft.{badNumbers, numbersOf, mftOf}
 
 abbrev pub Is : ℕ → State → Type 0
 Is n s = s ≡ refused n

@@ -15,8 +15,7 @@
 --
 -- The tables are the input table, the colour table and the output table, one behind the other. In lut8Type the first and the last have
 -- 256 entries for each channel.
-use Prim.Native.Nat.{ℕ, _+_, _*_, _^_, _<_}
-use mathlib.Core.Path.{_≡_}
+use Prim.Native.Nat.{ℕ, _+_, _*_}
 use mathlib.Core.Bool.{Bool, cond, _||_}
 use mathlib.Core.List.{List}
 use lib.Dec.{eqb}
@@ -78,10 +77,3 @@ outputLength t = outputEntries t * outputs t * entrySize t
 
 abbrev pub tablesEnd : List ℕ → ℕ
 tablesEnd t = outputStart t + outputLength t
-
--- ---- on the way
-
--- r is that number of bytes, and sums of a few of them fit 64 bits
-pub record Sized (n r : ℕ) : Type 0 where
-  pub is : r ≡ n
-  pub low : r < 2 ^ 48

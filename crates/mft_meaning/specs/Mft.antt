@@ -5,8 +5,8 @@ use mathlib.Core.List.{List}
 use lib.Dec.{ltb, eqb}
 use lib.ListN.{length}
 use Rattle.clut.specs.Table.{pointsOf}
-use Rattle.mft.specs.Answer.{State, value, refused, fieldsOf}
-use Rattle.mft.specs.Layout.{isMft, inputs, outputs, gridPoints, inputEntries, outputEntries, tablesStart, colourTable, tablesEnd}
+use Rattle.mft_meaning.specs.Answer.{State, value, refused, fieldsOf}
+use Rattle.mft_meaning.specs.Layout.{isMft, inputs, outputs, gridPoints, inputEntries, outputEntries, tablesStart, colourTable, tablesEnd}
 
 unfoldable pub outside : ℕ → ℕ → ℕ → Bool
 outside low x high = ltb x low || ltb high x

@@ -4,10 +4,10 @@ use mathlib.Core.List.{List}
 use lib.ListN.{replicate}
 use Rattle.clut.specs.Table.{Table, lengthOf}
 use Rattle.fields.specs.Refusals.{numberOf}
-use Rattle.mft.specs.Layout.{entrySize, inputs, outputs, gridPoints, matrixOf, inputEntries, outputEntries, tablesStart, inputLength, colourTable, outputStart, outputLength}
-use Rattle.mft.specs.declared.Mft.{Mft}
-use Rattle.mft.specs.declared.MftAnswer.{MftAnswer}
-use Rattle.mft.specs.declared.MftTable.{MftTable}
+use Rattle.mft_meaning.specs.Layout.{entrySize, inputs, outputs, gridPoints, matrixOf, inputEntries, outputEntries, tablesStart, inputLength, colourTable, outputStart, outputLength}
+use Rattle.mft_meaning.specs.declared.Mft.{Mft}
+use Rattle.mft_meaning.specs.declared.MftAnswer.{MftAnswer}
+use Rattle.mft_meaning.specs.declared.MftTable.{MftTable}
 
 -- the bytes of an entry, which tell the type; channels, grid points, entries, and where each table starts and how many bytes it has
 pub record Fields : Type 0 where

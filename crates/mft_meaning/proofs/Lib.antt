@@ -1,0 +1,5 @@
+pub mod Unique
+pub mod Conforms
+pub mod Inside
+pub mod More
+pub mod Cases
