@@ -15,11 +15,12 @@ use mir.Val.{Fits}
 use borrow.Author.Tests.{ne-eqb, lt-ltb, le-ltb, le-leb, lt-leb}
 use Rattle.fields.proofs.Choice.{each}
 use Rattle.fields.proofs.Located.{part-is}
-use Rattle.clut.specs.Clut.{some, isOver, isFlat, partials, overflows, mostEntries, gridAt, tableAt, shapeOf, clutOf, countsOf, Counted}
-use Rattle.clut.specs.Table.{product, lastOf}
-use Rattle.clut.specs.Answer.{Told, value, refused, toldOf}
+use Rattle.clut_meaning.specs.Clut.{some, isOver, isFlat, partials, overflows, mostEntries, gridAt, tableAt, shapeOf, clutOf}
+use Rattle.clut_meaning.specs.Table.{product, lastOf}
+use Rattle.clut_meaning.specs.Answer.{Told, value, refused, toldOf}
+use Rattle.clut_meaning.proofs.Grid.{factors, last-is}
+use Rattle.clut.specs.Counts.{countsOf, Counted}
 use Rattle.clut.specs.declared.Counts.{Counts}
-use Rattle.clut.proofs.Grid.{factors, last-is}
 
 -- ---- a product in 64 bits
 

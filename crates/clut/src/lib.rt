@@ -1,27 +1,16 @@
 // The colour table of an `mAB ` or `mBA ` tag: its shape. Carries over the CLUT part of read_lut_abm_type of moxcms.
+pub use clut_meaning::ClutAnswer;
+pub use clut_meaning::ColourTable;
 use fields::InTag;
 use fields::Refusal;
 ghost use mathlib.Core.Path.{_≡_};
 ghost use Prim.Native.Nat.{_*_, min};
-ghost use Rattle.clut.specs.Answer.{paper, toldOf};
-ghost use Rattle.clut.specs.Clut.{some, isFlat, countsOf, tableAt, shapeOf, clutOf, Counted};
+ghost use Rattle.clut_meaning.specs.Answer.{paper, toldOf};
+ghost use Rattle.clut_meaning.specs.Clut.{some, isFlat, tableAt, shapeOf, clutOf};
+ghost use Rattle.clut.specs.Counts.{countsOf, Counted};
 
 // The entries that a table may have, its output channels counted.
 const MOST_ENTRIES: u32 = 10_000_000;
-
-// A table: its grid points, where its data start in the tag, their length in bytes, and the bytes of an entry.
-pub struct ColourTable {
-    pub points: u32,
-    pub start: InTag,
-    pub length: u32,
-    pub entry_size: u8,
-}
-
-// What the reader of a colour table answers.
-pub enum ClutAnswer {
-    Value(ColourTable),
-    Refused(Refusal),
-}
 
 // The points of a grid and the entries on it, or a product on the way that passes 32 bits.
 enum Counts {

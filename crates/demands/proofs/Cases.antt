@@ -3,9 +3,9 @@
 use mathlib.Core.Path.{refl}
 use Rattle.fields.specs.Bytes.{bytesAt, wordsAt}
 use Rattle.fields.specs.Tag.{signatureOf}
-use Rattle.clut.specs.Cases.{numbersIn}
-use Rattle.clut.specs.Clut.{clutOf, shapeOf, some, partials}
-use Rattle.clut.specs.Table.{product, pointOf}
+use Rattle.clut_meaning.specs.Cases.{numbersIn}
+use Rattle.clut_meaning.specs.Clut.{clutOf, shapeOf, some, partials}
+use Rattle.clut_meaning.specs.Table.{product, pointOf}
 use Rattle.curve_meaning.specs.Answer.{answerOf}
 use Rattle.curve_meaning.specs.Cases.{signedParameters}
 use Rattle.curve_meaning.specs.Curve.{trcOf, curveOf, tableOf as curvOf, paraOf, divides}

@@ -8,7 +8,7 @@ use mathlib.Core.Logic.{_⊎_, inl, inr}
 use lib.Dec.{leb, ltb}
 use lib.ListN.{length}
 use borrow.Author.Tests.{le-ltb}
-use Rattle.clut.specs.Table.{Table}
+use Rattle.clut_meaning.specs.Table.{Table}
 use Rattle.curve_meaning.specs.Answer.{Answer as Curve·Answer}
 use Rattle.curve_meaning.specs.Shape.{Shape, wordsOf, stepOf, recordWords}
 use Rattle.curve_meaning.specs.Standard.{Laid as CurveLaid, Within as CurveWithin}

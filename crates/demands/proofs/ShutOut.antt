@@ -10,7 +10,7 @@ use lib.ListN.{getD, replicate}
 use Rattle.fields.specs.Bytes.{wordsAt}
 use Rattle.fields.specs.Tag.{signatureOf}
 use Rattle.curve_meaning.specs.Cases.{none, two}
-use Rattle.clut.specs.Table.{product}
+use Rattle.clut_meaning.specs.Table.{product}
 use Rattle.curve_meaning.specs.Curve.{divides}
 use Rattle.curve_meaning.specs.Layout.{parameterCount}
 use Rattle.curve_meaning.specs.Shape.{empty, table, para, sizeOf, wordsOf}

@@ -9,7 +9,7 @@ use lib.Dec.{ltb}
 use lib.ListN.{length, getD, drop}
 use Rattle.fields.specs.Place.{tagAt, countedSize}
 use Rattle.fields.specs.declared.Kind.the-variants.{Sig, Dtim, Meas, View, Xyz, Cicp}
-use Rattle.clut.specs.Table.{Table, inGrid, numberOf, lengthOf}
+use Rattle.clut_meaning.specs.Table.{Table, inGrid, numberOf, lengthOf}
 use Rattle.curve_meaning.specs.Answer.{Answer as Curve·Answer}
 use Rattle.curve_meaning.specs.Curve.{tagOf as Curve·tagOf}
 use Rattle.curve_meaning.specs.Shape.{Shape, wordsOf, stepOf, recordWords}

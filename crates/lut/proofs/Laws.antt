@@ -17,12 +17,12 @@ use Rattle.fields.specs.declared.Place.{Place}
 use Rattle.fields.specs.declared.Place.the-variants.{In, Past}
 use Rattle.fields.specs.declared.Refusal.{Refusal}
 use Rattle.fields.proofs.Located.{inside, past, part-is}
-use Rattle.clut.specs.Answer.{paper as clutPaper, toldOf, Told, value as clutValue, refused as clutRefused}
-use Rattle.clut.specs.Clut.{Seen, is, no, clutOf}
-use Rattle.clut.specs.Table.{product, lengthOf}
-use Rattle.clut.proofs.Conforms.{accepted as laid-out}
-use Rattle.clut.specs.declared.ClutAnswer.{ClutAnswer}
-use Rattle.clut.specs.declared.ColourTable.{ColourTable}
+use Rattle.clut_meaning.specs.Answer.{paper as clutPaper, toldOf, Told, value as clutValue, refused as clutRefused}
+use Rattle.clut_meaning.specs.Clut.{Seen, is, no, clutOf}
+use Rattle.clut_meaning.specs.Table.{product, lengthOf}
+use Rattle.clut_meaning.proofs.Conforms.{accepted as laid-out}
+use Rattle.clut_meaning.specs.declared.ClutAnswer.{ClutAnswer}
+use Rattle.clut_meaning.specs.declared.ColourTable.{ColourTable}
 use Rattle.curve_meaning.specs.Shape.{recordWords}
 use Rattle.curve_meaning.specs.declared.Walk.{Walk}
 use Rattle.mft_meaning.specs.Answer.{State as Mft·State, fieldsFrom, answerOf, paper as Mft·paper}

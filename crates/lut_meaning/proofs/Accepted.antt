@@ -15,8 +15,8 @@ use Rattle.fields.specs.Bytes.{u32At}
 use Rattle.fields.specs.Tag.{signatureOf}
 use Rattle.fields.specs.declared.Kind.the-variants.{Mab, Mba}
 use Rattle.fields.proofs.Choice.{each}
-use Rattle.clut.specs.Clut.{Seen, is, no}
-use Rattle.clut.specs.Table.{Table, lengthOf}
+use Rattle.clut_meaning.specs.Clut.{Seen, is, no}
+use Rattle.clut_meaning.specs.Table.{Table, lengthOf}
 use Rattle.curve_meaning.specs.Shape.{recordWords}
 use Rattle.curve_meaning.specs.declared.Walk.{Walk}
 use Rattle.mft_meaning.specs.Answer.{Fields, State as Mft·State, answerOf}

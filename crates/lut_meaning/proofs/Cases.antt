@@ -3,7 +3,7 @@
 use mathlib.Core.Path.{refl}
 use Rattle.fields.specs.Bytes.{bytesAt, wordsAt}
 use Rattle.fields.specs.Tag.{signatureOf}
-use Rattle.clut.specs.Table.{product}
+use Rattle.clut_meaning.specs.Table.{product}
 use Rattle.curve_meaning.specs.Curve.{curveOf, tableOf as curvOf, paraOf, divides}
 use Rattle.curve_meaning.specs.Layout.{parameterCount}
 use Rattle.curve_meaning.specs.Shape.{sizeOf, stepOf, wordsOf}

@@ -14,10 +14,10 @@ use Rattle.fields.specs.Place.{countedSize}
 use Rattle.fields.specs.Bytes.{u32At}
 use Rattle.fields.specs.Tag.{signatureOf}
 use Rattle.fields.specs.declared.Kind.the-variants.{Mab, Mba}
-use Rattle.clut.specs.Clut.{is, clutOf}
-use Rattle.clut.specs.Standard.{Within as TableWithin}
-use Rattle.clut.specs.Table.{Table, lengthOf}
-use Rattle.clut.proofs.Conforms.{conforms as table-conforms, accepted as table-accepted}
+use Rattle.clut_meaning.specs.Clut.{is, clutOf}
+use Rattle.clut_meaning.specs.Standard.{Within as TableWithin}
+use Rattle.clut_meaning.specs.Table.{Table, lengthOf}
+use Rattle.clut_meaning.proofs.Conforms.{conforms as table-conforms, accepted as table-accepted}
 use Rattle.curve_meaning.specs.Shape.{Shape, stepOf, is as seen, recordWords}
 use Rattle.curve_meaning.specs.Standard.{Laid, Within}
 use Rattle.curve_meaning.specs.declared.Walk.{Walk}

@@ -14,11 +14,11 @@ use borrow.Author.Tests.{ltb-false, eqb-true}
 use Rattle.fields.specs.Place.{countedSize}
 use Rattle.fields.specs.Bytes.{bytesAt}
 use Rattle.fields.proofs.Words.{bytes-part}
-use Rattle.clut.specs.Clut.{is, clutOf}
-use Rattle.clut.specs.Table.{Table, lengthOf, inGrid, numberOf}
-use Rattle.clut.proofs.Conforms.{accepted as laid-out}
-use Rattle.clut.proofs.Grid.{entry-below}
-use Rattle.clut.proofs.Inside.{inside}
+use Rattle.clut_meaning.specs.Clut.{is, clutOf}
+use Rattle.clut_meaning.specs.Table.{Table, lengthOf, inGrid, numberOf}
+use Rattle.clut_meaning.proofs.Conforms.{accepted as laid-out}
+use Rattle.clut_meaning.proofs.Grid.{entry-below}
+use Rattle.clut_meaning.proofs.Inside.{inside}
 use Rattle.curve_meaning.specs.Shape.{recordWords}
 use Rattle.curve_meaning.specs.declared.Walk.{Walk}
 use Rattle.mft_meaning.specs.Answer.{Fields}

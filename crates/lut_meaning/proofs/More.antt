@@ -14,8 +14,8 @@ use borrow.Author.Tests.{ltb-false, le-ltb}
 use Rattle.fields.specs.Place.{countedSize}
 use Rattle.fields.proofs.Append.{longer, part-append}
 use Rattle.fields.proofs.Grow.{Grows, choose, passes}
-use Rattle.clut.specs.Clut.{Seen, is, no}
-use Rattle.clut.specs.Table.{lengthOf}
+use Rattle.clut_meaning.specs.Clut.{Seen, is, no}
+use Rattle.clut_meaning.specs.Table.{lengthOf}
 use Rattle.curve_meaning.specs.Shape.{recordWords}
 use Rattle.curve_meaning.specs.declared.Walk.{Walk}
 use Rattle.mft_meaning.specs.Answer.{State as Mft·State, answerOf}

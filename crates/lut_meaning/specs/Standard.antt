@@ -6,8 +6,8 @@ use mathlib.Core.List.{List, [], _∷_}
 use mathlib.Core.Logic.{_⊎_}
 use lib.Dec.{ltb}
 use lib.ListN.{length, drop}
-use Rattle.clut.specs.Standard.{Laid as TableLaid, Within as TableWithin}
-use Rattle.clut.specs.Table.{Table}
+use Rattle.clut_meaning.specs.Standard.{Laid as TableLaid, Within as TableWithin}
+use Rattle.clut_meaning.specs.Table.{Table}
 use Rattle.fields.specs.Bytes.{u32At}
 use Rattle.fields.specs.Tag.{signatureOf}
 use Rattle.fields.specs.declared.Kind.the-variants.{Mab, Mba}

@@ -12,8 +12,8 @@ use lib.ListN.{length, getD, replicate}
 use mir.Syntax.{w64}
 use mir.Val.{Fits}
 use borrow.Author.Tests.{eq-eqb, ne-eqb, lt-ltb, le-ltb, ltb-false}
-use Rattle.clut.specs.Table.{pointsOf}
-use Rattle.clut.proofs.Grid.{power-is}
+use Rattle.clut_meaning.specs.Table.{pointsOf}
+use Rattle.clut_meaning.proofs.Grid.{power-is}
 use Rattle.fields.specs.Bytes.{u16At, u32At, wordsAt}
 use Rattle.fields.specs.Refusals.{numberOf}
 use Rattle.fields.specs.Tag.{signatureOf}

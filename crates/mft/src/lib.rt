@@ -7,7 +7,7 @@ pub use mft_meaning::MftAnswer;
 pub use mft_meaning::MftTable;
 ghost use mathlib.Core.Path.{_≡_};
 ghost use Prim.Native.Nat.{_*_, _^_, _≤_};
-ghost use Rattle.clut.specs.Table.{pointsOf};
+ghost use Rattle.clut_meaning.specs.Table.{pointsOf};
 ghost use Rattle.mft_meaning.specs.Answer.{paper, stateFrom, answerOf};
 ghost use Rattle.mft_meaning.specs.Layout.{isWide, isMft, entriesAt, entrySize, tablesStart, colourTable};
 ghost use Rattle.mft_meaning.specs.Mft.{outside, badEntries, badChannels, badNumbers, tablesOf, numbersOf, mftOf};

@@ -1,7 +1,7 @@
 -- The worked cases of `mft1` and `mft2` hold, jointly: each is computed.
 -- Assumes nothing.
 use mathlib.Core.Path.{refl}
-use Rattle.clut.specs.Table.{product}
+use Rattle.clut_meaning.specs.Table.{product}
 use Rattle.fields.specs.Bytes.{wordsAt}
 use Rattle.fields.specs.Tag.{signatureOf}
 use Rattle.mft_meaning.specs.Answer.{fieldsOf, answerOf}

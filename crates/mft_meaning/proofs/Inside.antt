@@ -8,8 +8,8 @@ use mathlib.Core.Path.{_≡_, refl}
 use mathlib.Core.Bool.{Bool, true, false, cond}
 use mathlib.Core.List.{List}
 use lib.ListN.{length}
-use Rattle.clut.specs.Table.{pointsOf, lengthOf, inGrid, numberOf}
-use Rattle.clut.proofs.Grid.{entry-below, power-is}
+use Rattle.clut_meaning.specs.Table.{pointsOf, lengthOf, inGrid, numberOf}
+use Rattle.clut_meaning.proofs.Grid.{entry-below, power-is}
 use Rattle.mft_meaning.specs.Answer.{Fields, value, fieldsOf, toldTable}
 use Rattle.mft_meaning.specs.Layout.{isWide, inputs, outputs, gridPoints, entrySize, colourTable}
 use Rattle.mft_meaning.specs.Mft.{mftOf}

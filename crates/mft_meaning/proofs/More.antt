@@ -9,7 +9,7 @@ use mathlib.Core.Logic.{inr}
 use lib.Dec.{ltb}
 use lib.ListN.{length}
 use borrow.Author.Tests.{ltb-false, le-ltb}
-use Rattle.clut.specs.Table.{pointsOf}
+use Rattle.clut_meaning.specs.Table.{pointsOf}
 use Rattle.fields.proofs.Grow.{Grows, choose, passes}
 use Rattle.mft_meaning.specs.Answer.{State, refused}
 use Rattle.mft_meaning.specs.Layout.{isMft, colourTable, tablesStart}

@@ -2,7 +2,7 @@
 use Prim.Native.Nat.{ℕ}
 use mathlib.Core.List.{List}
 use lib.ListN.{replicate}
-use Rattle.clut.specs.Table.{Table, lengthOf}
+use Rattle.clut_meaning.specs.Table.{Table, lengthOf}
 use Rattle.fields.specs.Refusals.{numberOf}
 use Rattle.mft_meaning.specs.Layout.{entrySize, inputs, outputs, gridPoints, matrixOf, inputEntries, outputEntries, tablesStart, inputLength, colourTable, outputStart, outputLength}
 use Rattle.mft_meaning.specs.declared.Mft.{Mft}

@@ -4,7 +4,7 @@ use mathlib.Core.Bool.{Bool, cond, not, _||_}
 use mathlib.Core.List.{List}
 use lib.Dec.{ltb, eqb}
 use lib.ListN.{length}
-use Rattle.clut.specs.Table.{pointsOf}
+use Rattle.clut_meaning.specs.Table.{pointsOf}
 use Rattle.mft_meaning.specs.Answer.{State, value, refused, fieldsOf}
 use Rattle.mft_meaning.specs.Layout.{isMft, inputs, outputs, gridPoints, inputEntries, outputEntries, tablesStart, colourTable, tablesEnd}
 

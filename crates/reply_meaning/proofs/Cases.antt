@@ -3,7 +3,7 @@
 use mathlib.Core.Path.{refl}
 use Rattle.fields.specs.Bytes.{wordsAt}
 use Rattle.fields.specs.Tag.{signatureOf}
-use Rattle.clut.specs.Table.{product, inGrid, pointOf}
+use Rattle.clut_meaning.specs.Table.{product, inGrid, pointOf}
 use Rattle.mft_meaning.specs.Answer.{fieldsOf, answerOf as mftAnswer}
 use Rattle.mft_meaning.specs.Layout.{isWide, isMft, entrySize, tablesStart, entriesAt, colourTable}
 use Rattle.mft_meaning.specs.Mft.{outside, badEntries, badChannels, badNumbers, tablesOf, numbersOf, mftOf}

@@ -14,8 +14,8 @@ use mir.Syntax.{w64}
 use mir.Val.{Fits}
 use borrow.Author.Tests.{eq-eqb, ne-eqb, lt-ltb, le-ltb, ltb-true, ltb-false}
 use Rattle.fields.specs.Bytes.{u16At}
-use Rattle.clut.specs.Table.{Table, product, inGrid, pointOf, numberOf}
-use Rattle.clut.proofs.Grid.{point-below}
+use Rattle.clut_meaning.specs.Table.{Table, product, inGrid, pointOf, numberOf}
+use Rattle.clut_meaning.proofs.Grid.{point-below}
 use Rattle.fields.specs.declared.InTag.{InTag}
 use Rattle.lut_meaning.specs.Answer.{stateFrom}
 use Rattle.lut_meaning.specs.declared.AbmTable.{AbmTable}

@@ -4,7 +4,7 @@ use mathlib.Core.Path.{_≡_}
 use mathlib.Core.Bool.{cond, _&&_}
 use mathlib.Core.List.{List}
 use lib.Dec.{ltb}
-use Rattle.clut.specs.Table.{inGrid, pointOf}
+use Rattle.clut_meaning.specs.Table.{inGrid, pointOf}
 use Rattle.table.specs.declared.Point.{Point}
 
 -- the point that an index names

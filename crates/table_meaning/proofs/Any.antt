@@ -10,7 +10,7 @@ use lib.Dec.{ltb}
 use lib.ListN.{length}
 use borrow.Author.Tests.{ltb-true, ltb-false}
 use Rattle.fields.proofs.Choice.{each, first-holds, second-holds, neither-left, neither-right}
-use Rattle.clut.specs.Table.{Table, inGrid, pointOf, numberOf}
+use Rattle.clut_meaning.specs.Table.{Table, inGrid, pointOf, numberOf}
 use Rattle.table_meaning.specs.Answer.{Told, value, absent}
 use Rattle.table_meaning.specs.View.{storedAt, entryFrom, entryOf}
 

@@ -1,7 +1,7 @@
 -- The worked cases of a table view hold, jointly: each is computed.
 -- Assumes nothing.
 use mathlib.Core.Path.{refl}
-use Rattle.clut.specs.Table.{product, inGrid, pointOf}
+use Rattle.clut_meaning.specs.Table.{product, inGrid, pointOf}
 use Rattle.table_meaning.specs.Cases.{All, Holds, cases}
 use Rattle.table_meaning.specs.View.{gridFrom, entryFrom, entryOf}
 

@@ -10,8 +10,8 @@ use mathlib.Core.List.{List, [], _∷_}
 use mathlib.Core.Logic.{inl, inr}
 use lib.Dec.{ltb}
 use Rattle.fields.proofs.Choice.{second-holds}
-use Rattle.clut.specs.Table.{Table, product, inGrid, pointOf, numberOf}
-use Rattle.clut.proofs.Grid.{point-below}
+use Rattle.clut_meaning.specs.Table.{Table, product, inGrid, pointOf, numberOf}
+use Rattle.clut_meaning.proofs.Grid.{point-below}
 use Rattle.table_meaning.specs.Order.{Before}
 
 pub in-order : (gs xs ys : List ℕ) → inGrid gs xs ≡ true → inGrid gs ys ≡ true → Before xs ys → pointOf gs xs < pointOf gs ys

@@ -14,9 +14,9 @@ use lib.Seq.{take-take}
 use borrow.Author.Tests.{lt-ltb, le-ltb}
 use Rattle.fields.specs.Bytes.{bytesAt}
 use Rattle.fields.proofs.Words.{bytes-part}
-use Rattle.clut.specs.Clut.{is, clutOf}
-use Rattle.clut.specs.Table.{Table, lengthOf, inGrid, pointOf, numberOf}
-use Rattle.clut.proofs.Conforms.{Accepted, accepted}
+use Rattle.clut_meaning.specs.Clut.{is, clutOf}
+use Rattle.clut_meaning.specs.Table.{Table, lengthOf, inGrid, pointOf, numberOf}
+use Rattle.clut_meaning.proofs.Conforms.{Accepted, accepted}
 use Rattle.curve_meaning.specs.declared.Walk.{Walk}
 use Rattle.mft_meaning.specs.Answer.{Fields, fieldsOf, toldTable as Mft·toldTable}
 use Rattle.mft_meaning.specs.Layout.{isWide, entrySize}

@@ -5,7 +5,7 @@ use mathlib.Core.List.{List, [], _∷_}
 use lib.Dec.{ltb, eqb}
 use lib.ListN.{length, getD}
 use Rattle.fields.specs.Bytes.{u16At}
-use Rattle.clut.specs.Table.{Table, inGrid, pointOf, numberOf}
+use Rattle.clut_meaning.specs.Table.{Table, inGrid, pointOf, numberOf}
 use Rattle.lut_meaning.specs.Answer.{State, mft, abm, absent as State·absent, refused}
 use Rattle.table_meaning.specs.Answer.{Told, value, absent}
 use Rattle.table_meaning.specs.declared.TableNumbers.{TableNumbers}

@@ -4,7 +4,7 @@ use Prim.Native.Nat.{_≤_, _<_, _-_, _^_}
 use mathlib.Core.Path.{_≡_}
 use lib.ListN.{length, drop}
 use borrow.Author.Needs.{needs}
-use Rattle.clut.specs.Clut.{countsOf}
+use Rattle.clut.specs.Counts.{countsOf}
 use Rattle.clut.proofs.Laws.{countsFrom, count-laws}
 use Rattle.clut.proofs.count.Statement.{statement}
 use Rattle.clut.proofs.count.Tie as tie

@@ -4,7 +4,7 @@ use Prim.Native.Nat.{_≤_, _-_}
 use mathlib.Core.Path.{_≡_}
 use lib.ListN.{length, drop}
 use borrow.Author.Needs.{needs}
-use Rattle.clut.specs.Clut.{some, isFlat}
+use Rattle.clut_meaning.specs.Clut.{some, isFlat}
 use Rattle.clut.proofs.Laws.{flat-laws}
 use Rattle.clut.proofs.has_flat.Statement.{statement}
 use Rattle.clut.proofs.has_flat.Tie as tie

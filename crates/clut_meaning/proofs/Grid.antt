@@ -10,7 +10,7 @@ use mathlib.Core.List.{List, [], _∷_}
 use lib.Dec.{ltb}
 use lib.ListN.{replicate}
 use borrow.Author.Tests.{ltb-true}
-use Rattle.clut.specs.Table.{Table, product, pointsOf, entriesOf, lengthOf, inGrid, pointOf, lastOf, numberOf}
+use Rattle.clut_meaning.specs.Table.{Table, product, pointsOf, entriesOf, lengthOf, inGrid, pointOf, lastOf, numberOf}
 
 -- no factor of a product that is not 0 is 0
 pub factors : (p q : ℕ) → 1 ≤ p * q → (1 ≤ p) × (1 ≤ q)

@@ -1,9 +1,9 @@
 -- What the reader of a colour table answers, in numbers.
 use Prim.Native.Nat.{ℕ}
 use Rattle.fields.specs.Refusals.{numberOf}
-use Rattle.clut.specs.Clut.{Seen, is, no}
-use Rattle.clut.specs.Table.{pointsOf, lengthOf}
-use Rattle.clut.specs.declared.ClutAnswer.{ClutAnswer}
+use Rattle.clut_meaning.specs.Clut.{Seen, is, no}
+use Rattle.clut_meaning.specs.Table.{pointsOf, lengthOf}
+use Rattle.clut_meaning.specs.declared.ClutAnswer.{ClutAnswer}
 
 -- the grid points, where the data start in the tag, their length in bytes and the bytes of an entry; the number of a refusal
 pub data Told : Type 0 where

@@ -5,14 +5,12 @@
 --   16        the bytes of an entry, 1 or 2
 --   17 to 19  reserved, 0
 --   20 on     the entries
-use Prim.Native.Nat.{ℕ, _+_, _*_, _^_, _≤_, min}
-use mathlib.Core.Path.{_≡_}
+use Prim.Native.Nat.{ℕ, _+_, _*_, _^_, min}
 use mathlib.Core.Bool.{Bool, false, cond, _||_}
 use mathlib.Core.List.{List, [], _∷_, _++_}
 use lib.Dec.{ltb, leb, eqb}
 use lib.ListN.{length, getD, take, drop}
-use Rattle.clut.specs.Table.{Table, product, entriesOf, lengthOf, lastOf}
-use Rattle.clut.specs.declared.Counts.{Counts}
+use Rattle.clut_meaning.specs.Table.{Table, entriesOf, lengthOf, lastOf}
 
 -- the grid in use: of the sixteen bytes, one for each input channel
 abbrev pub gridAt : List ℕ → ℕ → ℕ → List ℕ
@@ -71,17 +69,3 @@ clutOf t at inputs outputs =
     cond (eqb (entriesOf table) 0) (no 5) (
     cond (ltb mostEntries (entriesOf table)) (no 6) (
     shapeOf t table))))
-
--- ---- on the way
-
--- the points of a grid and the entries on it, unless a partial product passes 32 bits
-unfoldable pub countsOf : List ℕ → ℕ → Counts
-countsOf grid outputs = cond (overflows grid outputs) Counts.Over (Counts.Fit (product grid) (product grid * outputs))
-
--- what is known of a table once its entries are counted
-pub record Counted (t : List ℕ) (at : ℕ) (grid : List ℕ) (outputs points entries : ℕ) : Type 0 where
-  pub header : at + 20 ≤ length t
-  pub points-are : points ≡ product grid
-  pub entries-are : entries ≡ product grid * outputs
-  pub one : 1 ≤ entries
-  pub few : entries ≤ mostEntries

@@ -3,8 +3,8 @@ use Prim.Native.Nat.{ℕ, _+_, _≤_, _<_}
 use mathlib.Core.Path.{_≡_}
 use mathlib.Core.List.{List}
 use lib.ListN.{length, getD}
-use Rattle.clut.specs.Clut.{gridAt, mostEntries}
-use Rattle.clut.specs.Table.{Table, entriesOf, lengthOf}
+use Rattle.clut_meaning.specs.Clut.{gridAt, mostEntries}
+use Rattle.clut_meaning.specs.Table.{Table, entriesOf, lengthOf}
 
 -- the tag t, of so many channels, has the table at `at`, its reserved bytes and the grid points out of use aside
 pub record Laid (t : List ℕ) (at inputs outputs : ℕ) (table : Table) : Type 0 where

@@ -5,10 +5,10 @@ use mathlib.Core.Path.{_≡_}
 use mathlib.Core.Bool.{true}
 use mathlib.Core.List.{List}
 use lib.ListN.{length, getD}
-use Rattle.clut.specs.Clut.{is, mostEntries, clutOf}
-use Rattle.clut.specs.Table.{Table, entriesOf, lengthOf, inGrid, numberOf}
-use Rattle.clut.proofs.Conforms.{accepted}
-use Rattle.clut.proofs.Grid.{entry-below}
+use Rattle.clut_meaning.specs.Clut.{is, mostEntries, clutOf}
+use Rattle.clut_meaning.specs.Table.{Table, entriesOf, lengthOf, inGrid, numberOf}
+use Rattle.clut_meaning.proofs.Conforms.{accepted}
+use Rattle.clut_meaning.proofs.Grid.{entry-below}
 
 pub record Inside (t : List ℕ) (table : Table) : Type 0 where
   pub data-in-tag : table .start + lengthOf table ≤ length t

@@ -3,9 +3,9 @@ use Prim.Native.Nat.{ℕ, pred, _*_}
 use mathlib.Core.Path.{_≡_}
 use mathlib.Core.List.{List, [], _∷_, _++_, map}
 use lib.ListN.{replicate}
-use Rattle.clut.specs.Answer.{Told, value, refused, toldOf}
-use Rattle.clut.specs.Clut.{Seen, is, no, clutOf}
-use Rattle.clut.specs.Table.{entriesOf, lastOf, numberOf}
+use Rattle.clut_meaning.specs.Answer.{Told, value, refused, toldOf}
+use Rattle.clut_meaning.specs.Clut.{Seen, is, no, clutOf}
+use Rattle.clut_meaning.specs.Table.{entriesOf, lastOf, numberOf}
 
 pub data Case : Type 0 where
   -- tag, input and output channels, and the answer

@@ -3,8 +3,8 @@
 use mathlib.Core.Path.{_≡_, refl, ap}
 use Rattle.fields.proofs.Numbers.{nameOf, named}
 use Rattle.fields.proofs.Once.{once}
-use Rattle.clut.specs.Answer.{Told, value, refused, paper}
-use Rattle.clut.specs.declared.ClutAnswer.{ClutAnswer}
+use Rattle.clut_meaning.specs.Answer.{Told, value, refused, paper}
+use Rattle.clut_meaning.specs.declared.ClutAnswer.{ClutAnswer}
 
 -- the result that stands for an answer
 abbrev resultFrom : Told → ClutAnswer

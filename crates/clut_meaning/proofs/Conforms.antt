@@ -12,10 +12,10 @@ use lib.Dec.{ltb, leb, eqb}
 use lib.ListN.{length, getD}
 use borrow.Author.Tests.{ne-eqb, le-ltb, lt-leb, ltb-false, eqb-false}
 use Rattle.fields.proofs.Choice.{each, neither-left, neither-right}
-use Rattle.clut.specs.Clut.{Seen, is, no, some, isOver, isFlat, partials, overflows, mostEntries, gridAt, tableAt, shapeOf, clutOf}
-use Rattle.clut.specs.Standard.{Laid, Within}
-use Rattle.clut.specs.Table.{Table, product, lastOf}
-use Rattle.clut.proofs.Grid.{factors, last-below}
+use Rattle.clut_meaning.specs.Clut.{Seen, is, no, some, isOver, isFlat, partials, overflows, mostEntries, gridAt, tableAt, shapeOf, clutOf}
+use Rattle.clut_meaning.specs.Standard.{Laid, Within}
+use Rattle.clut_meaning.specs.Table.{Table, product, lastOf}
+use Rattle.clut_meaning.proofs.Grid.{factors, last-below}
 
 -- ---- what is laid out so is accepted
 

@@ -1,10 +1,10 @@
 -- The worked cases of the colour table hold, jointly: each is computed.
 -- Assumes nothing.
 use mathlib.Core.Path.{refl}
-use Rattle.clut.specs.Answer.{toldOf}
-use Rattle.clut.specs.Cases.{All, Holds, numbersIn, cases}
-use Rattle.clut.specs.Clut.{clutOf, shapeOf, some, partials}
-use Rattle.clut.specs.Table.{product, pointOf}
+use Rattle.clut_meaning.specs.Answer.{toldOf}
+use Rattle.clut_meaning.specs.Cases.{All, Holds, numbersIn, cases}
+use Rattle.clut_meaning.specs.Clut.{clutOf, shapeOf, some, partials}
+use Rattle.clut_meaning.specs.Table.{product, pointOf}
 
 pub claim : All cases
 unfolding All Holds numbersIn toldOf clutOf shapeOf some partials product pointOf

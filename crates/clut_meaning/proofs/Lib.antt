@@ -1,0 +1,5 @@
+pub mod Grid
+pub mod Unique
+pub mod Conforms
+pub mod Inside
+pub mod Cases
