@@ -1,8 +1,8 @@
 /* The functions of crate `exports` for C. A slice of the source is a pointer and a length in elements here.
  *
  * Each returns a status: 0 value, 1 to 18 the number of a refusal (docs/SCOPE.md), 100 absent, 101 default, 102 where `out` has fewer words
- * than the function asks for. The words of a value stand in front of `out`; on any other status it stays as it was. Nothing compares
- * these lines with the source, where the order of the words stands above each function.
+ * than the function asks for. The words of a value stand in front of `out`; on any other status it stays as it was. Their order stands
+ * above each function of the source, against which tools/check-header holds these lines.
  */
 #ifndef KHALYKSOR_H
 #define KHALYKSOR_H
