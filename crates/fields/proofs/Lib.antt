@@ -8,3 +8,4 @@ pub mod Numbers
 pub mod Stores
 pub mod Fills
 pub mod Once
+pub mod Putting

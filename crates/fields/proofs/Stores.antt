@@ -7,8 +7,8 @@ use native.Mathlib.Nat.{zero-add, add-zero, add-suc, suc-add}
 use native.Mathlib.Numerals.{add-one}
 use mathlib.Core.Path.{_≡_, refl, sym, ap, _∙_}
 use mathlib.Core.List.{List, [], _∷_, _++_, append-nil, append-assoc}
-use lib.ListN.{length, getD, take, drop, set, length-drop, drop-of-length-le}
-use lib.Seq.{sets, sets-eq, drop-cons, take-all, drop-drop, length-take-le}
+use lib.ListN.{length, getD, take, drop, set, length-drop, drop-of-length-le, take-append-drop}
+use lib.Seq.{sets, sets-eq, drop-cons, drop-drop, drop-append-le, length-take-le}
 use borrow.Rule.Slice.PartMut.{putMid}
 
 pub sets-append : (xs ys l : List ℕ) (i : ℕ) → sets l i (xs ++ ys) ≡ sets (sets l i xs) (i + length xs) ys
@@ -29,19 +29,25 @@ sets-past (a ∷ vs) l i h = rw (set-past l i a h) (sets-past vs l (suc i) (omeg
 pub front : (s vs : List ℕ) (n : ℕ) → length vs ≡ n → n ≤ length s → vs ++ drop n s ≡ sets s 0 vs
 front s vs n e h = sym (sets-eq vs s 0 (omega arith) ∙ rw (zero-add, e))
 
--- the part of s from a on, with vs written in front of it, back in its place
+-- the part of s from a to b, with vs written in front of it, back in its place
+pub put-back : (s vs y : List ℕ) (a b : ℕ) → a ≤ b → b ≤ length s → length vs ≤ b - a → y ≡ sets (take (b - a) (drop a s)) 0 vs → putMid a (b - a) s y ≡ sets s a vs
+put-back s vs y a b h m n f =
+    let rest : List ℕ = drop a s in
+    let part : List ℕ = take (b - a) rest in
+    let long : length part ≡ b - a = length-take-le (b - a) rest (simp length-drop (omega arith)) in
+    let g : y ≡ vs ++ drop (length vs) part = f ∙ sym (front part vs (length vs) refl (omega (arith, long))) in
+    let behind : drop (length vs) part ++ drop (b - a) rest ≡ drop (a + length vs) s = sym (drop-append-le (length vs) part (drop (b - a) rest) (omega (arith, long))) ∙ ap (drop (length vs)) (take-append-drop (b - a) rest) ∙ drop-drop (length vs) a s in
+    ap (λ (z : List ℕ). take a s ++ (z ++ drop (b - a) rest)) g
+    ∙ ap (λ (z : List ℕ). take a s ++ z) (append-assoc vs (drop (length vs) part) (drop (b - a) rest))
+    ∙ ap (λ (z : List ℕ). take a s ++ (vs ++ z)) behind
+    ∙ sym (append-assoc (take a s) vs (drop (a + length vs) s))
+    ∙ sym (sets-eq vs s a (omega arith))
+
+-- the same of the part from a on
 pub rejoined : (s vs : List ℕ) (a n : ℕ) → length vs ≡ n → a + n ≤ length s → (y : List ℕ) → y ≡ vs ++ drop n (take (length s - a) (drop a s)) → putMid a (length s - a) s y ≡ sets s a vs
 rejoined s vs a n e h y f =
-    let l : length (drop a s) ≤ length s - a = simp length-drop (omega arith) in
-    let room : a + length vs ≤ length s = omega arith in
-    rw (f, take-all (length s - a) (drop a s) l, drop-of-length-le (drop a s) l, append-nil, drop-drop, sets-eq vs s a room, e) (sym (append-assoc (take a s) vs (drop (a + n) s)))
-
--- as many as the part from a to b has, in its place
-pub replaced : (s vs y : List ℕ) (a b : ℕ) → a ≤ b → b ≤ length s → length vs ≡ b - a → y ≡ sets (take (b - a) (drop a s)) 0 vs → putMid a (b - a) s y ≡ sets s a vs
-replaced s vs y a b h m e f =
-    let part : length (take (b - a) (drop a s)) ≡ b - a = length-take-le (b - a) (drop a s) (simp length-drop (omega arith)) in
-    let all : sets (take (b - a) (drop a s)) 0 vs ≡ vs = sets-eq vs (take (b - a) (drop a s)) 0 (omega (arith, part)) ∙ rw (zero-add, drop-of-length-le (take (b - a) (drop a s)) {i = length vs} (omega (arith, part))) (append-nil vs) in
-    rw (f, all, drop-drop, sets-eq vs s a (omega arith), e) (sym (append-assoc (take a s) vs (drop (a + (b - a)) s)))
+    let long : length (take (length s - a) (drop a s)) ≡ length s - a = length-take-le (length s - a) (drop a s) (simp length-drop (omega arith)) in
+    put-back s vs y a (length s) (omega arith) (omega arith) (omega arith) (f ∙ front (take (length s - a) (drop a s)) vs n e (omega (arith, long)))
 
 -- ---- a loop that fills a list with a row ws: what is left to store makes of it the row
 

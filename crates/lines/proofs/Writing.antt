@@ -1,17 +1,17 @@
--- Text that is written piece by piece is written whole; and what a loop of stores leaves to write.
+-- Text that is written piece by piece is written whole; and the loop that writes a piece.
 -- Assumes nothing.
 use Prim.Native.Nat.{ℕ, _+_, _-_, _≤_, _<_, min}
 use native.Mathlib.Nat.{min-eq-left, min-eq-right, min-le-left}
-use native.Mathlib.Numerals.{add-one}
 use native.Mathlib.Omega.{arith}
 use mathlib.Core.Path.{_≡_, refl, sym, ap, _∙_}
-use mathlib.Core.List.{List, [], _∷_, _++_}
+use mathlib.Core.List.{List, [], _++_}
 use mathlib.Core.Bool.{Bool, true, false}
 use mathlib.Core.Logic.{_⊎_, inl, inr}
 use lib.Dec.{leb}
-use lib.ListN.{length, getD, drop, set, length-append, length-set, drop-of-length-le}
-use lib.Seq.{sets, length-sets, drop-cons}
+use lib.ListN.{length, getD, set, length-append}
+use lib.Seq.{sets, length-sets}
 use borrow.Author.Tests.{leb-true, leb-false}
+use Rattle.fields.proofs.Putting.{Putting, begins as stores-begin, turns as stores-turn, full as stores-full, done as stores-done}
 use Rattle.fields.proofs.Stores.{sets-append, sets-past}
 use Rattle.lines.specs.Text.{Wrote}
 
@@ -65,41 +65,37 @@ nothing l at = record { written = refl; ends = omega (arith, min-le-left 0 (leng
 
 -- ---- the loop of stores
 
--- i of the bytes are written; what is left makes of the buffer what all of them make of it
+-- i of the bytes are written, as far as there is room
 pub record Writing (l : List ℕ) (at : ℕ) (bytes l' : List ℕ) (end i : ℕ) : Type 0 where
   pub within : i ≤ length bytes
-  pub same : length l' ≡ length l
   pub next : end ≡ at + i
   pub room : i ≤ length l - at
-  pub left : sets l' end (drop i bytes) ≡ sets l at bytes
+  pub stored : Putting l at bytes l' end i
 
 module _ (l : List ℕ) (at : ℕ) (bytes : List ℕ) where
   pub begins : Writing l at bytes l at 0
-  begins = record { within = omega arith; same = refl; next = omega arith; room = omega arith; left = refl }
+  begins = record { within = omega arith; next = omega arith; room = omega arith; stored = stores-begin l at bytes }
 
   module _ (l' : List ℕ) (end i : ℕ) (w : Writing l at bytes l' end i) where
     pub turns : i < length bytes → end < length l' → Writing l at bytes (set l' end (getD bytes i 0)) (end + 1) (i + 1)
     turns h g =
         record {
           within = omega arith;
-          same = length-set l' end (getD bytes i 0) ∙ w .same;
           next = omega (arith, w .next);
-          room = omega (arith, w .next, w .same);
-          left = simp add-one (rw (drop-cons bytes i 0 h) at (w .left));
+          room = omega (arith, w .next, w .stored .same);
+          stored = stores-turn l at bytes l' end i (w .stored) (getD bytes i 0) h refl;
         }
 
-    -- no room is left
+    -- where no room is left, or nothing to write, the end is that of the text
+    the-end : (length bytes ≤ i) ⊎ (length l' ≤ end) → end ≡ at + min (length bytes) (length l - at)
+    the-end s =
+        elim s [
+          | inl k ↦ elim (least (length bytes) (length l - at)) [ inl (g, e) ↦ omega (arith, w .next, w .room, w .within, e) | inr (g, e) ↦ omega (arith, w .next, w .room, w .within, e) ]
+          | inr k ↦ elim (least (length bytes) (length l - at)) [ inl (g, e) ↦ omega (arith, w .next, w .room, w .stored .same, w .within, e) | inr (g, e) ↦ omega (arith, w .next, w .room, w .stored .same, w .within, e) ]
+        ]
+
     pub full : length l' ≤ end → Wrote l l' at end bytes
-    full h =
-        record {
-          written = sym (sets-past (drop i bytes) l' end h) ∙ w .left;
-          ends = elim (least (length bytes) (length l - at)) [ inl (g, e) ↦ omega (arith, w .next, w .room, w .same, w .within, e) | inr (g, e) ↦ omega (arith, w .next, w .room, w .same, w .within, e) ];
-        }
+    full h = record { written = stores-full l at bytes l' end i (w .stored) h; ends = the-end (inr h) }
 
-    -- nothing is left to write
     pub done : length bytes ≤ i → Wrote l l' at end bytes
-    done h =
-        record {
-          written = rw (drop-of-length-le bytes {i = i} h) at (w .left);
-          ends = elim (least (length bytes) (length l - at)) [ inl (g, e) ↦ omega (arith, w .next, w .room, w .same, w .within, e) | inr (g, e) ↦ omega (arith, w .next, w .room, w .same, w .within, e) ];
-        }
+    done h = record { written = stores-done l at bytes l' end i (w .stored) h; ends = the-end (inl h) }

@@ -20,7 +20,6 @@ use Rattle.fields.proofs.Located.{inside, past, part-is}
 use Rattle.clut_meaning.specs.Answer.{paper as clutPaper, toldOf, Told, value as clutValue, refused as clutRefused}
 use Rattle.clut_meaning.specs.Clut.{Seen, is, no, clutOf}
 use Rattle.clut_meaning.specs.Table.{product, lengthOf}
-use Rattle.clut_meaning.proofs.Conforms.{accepted as laid-out}
 use Rattle.clut_meaning.specs.declared.ClutAnswer.{ClutAnswer}
 use Rattle.clut_meaning.specs.declared.ColourTable.{ColourTable}
 use Rattle.curve_meaning.specs.Shape.{recordWords}
@@ -43,6 +42,7 @@ use Rattle.lut.specs.Verdict.{judgedFrom}
 use Rattle.lut_meaning.specs.declared.Lut.{Lut}
 use Rattle.lut_meaning.specs.declared.Plan.{Plan}
 use Rattle.lut.specs.declared.nested.Verdict.{Verdict}
+use Rattle.lut_meaning.proofs.Inside.{grid-inside}
 use Rattle.lut_meaning.proofs.Shared.{all-length}
 
 -- ---- the parts of the answer
@@ -134,7 +134,7 @@ module _ (walk : Walk) (limit : ℕ) (t s : List ℕ) (found : ClutAnswer) (h : 
   grid-there c e z = by (clutOf t (clutOffset t) (inputs t) (outputs t)) refl
     where
       by : (x : Seen) → clutOf t (clutOffset t) (inputs t) (outputs t) ≡ x → clutOffset t + 16 ≤ length t
-      by (is table) f = let a = laid-out t (clutOffset t) (inputs t) (outputs t) table f .laid in omega (arith, a .whole, a .start-is)
+      by (is table) f = grid-inside t table f
       by (no n) f =
           let g : tableOf t ≡ no n = rw (ne-eqb _ _ z) f in
           let k : clutPaper (ClutAnswer.Value c) ≡ toldOf (no n) = sym (ap clutPaper e) ∙ h ∙ ap toldOf g in

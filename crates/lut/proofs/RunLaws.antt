@@ -14,7 +14,7 @@ use borrow.Rule.Slice.PartMut.{putMid}
 use Rattle.fields.specs.Refusals.{numberOf}
 use Rattle.fields.specs.declared.Refusal.{Refusal}
 use Rattle.fields.proofs.Located.{rest-is}
-use Rattle.fields.proofs.Stores.{replaced}
+use Rattle.fields.proofs.Stores.{put-back}
 use Rattle.curve_meaning.specs.Answer.{Going, stop, goingOf, goingFrom, slotWith, seenIn, Went}
 use Rattle.curve_meaning.specs.Curve.{curveOf}
 use Rattle.curve_meaning.specs.Shape.{is, stepOf, recordWords, wordsOf}
@@ -152,5 +152,5 @@ module _ (walk : Walk) (limit : ℕ) (t : List ℕ) (o n : ℕ) (s₀ s : List �
         write-turn at′ f =
             let x = next-is walk limit t o n s₀ s at i w l in
             let k : slot′ ≡ sets slot 0 (wordsOf (at + 12) (x .shape)) = went .slot-is ∙ ap (slotWith (at + 12) slot) seen-next in
-            let r = replaced s (wordsOf (at + 12) (x .shape)) slot′ (i * recordWords) (i * recordWords + recordWords) (omega arith) slot-there (words-length (at + 12) (x .shape) ∙ omega arith) k in
+            let r = put-back s (wordsOf (at + 12) (x .shape)) slot′ (i * recordWords) (i * recordWords + recordWords) (omega arith) slot-there (omega (arith, words-length (at + 12) (x .shape))) k in
             rw (f, step-is) (turns walk limit t o n s₀ s at i w l _ (x .shape) (x .seen) r)

@@ -68,6 +68,12 @@ table-inside t table = by (eqb (clutOffset t) 0)
     by true h = let e : noTable ≡ table = cc in subst (λ (x : Table). x .start + lengthOf x ≤ length t) e none
     by false h = inside t (clutOffset t) (inputs t) (outputs t) table h .data-in-tag
 
+-- and so do its sixteen grid bytes
+pub grid-inside : (t : List ℕ) (table : Table) → clutOf t (clutOffset t) (inputs t) (outputs t) ≡ is table → clutOffset t + 16 ≤ length t
+grid-inside t table h =
+    let a = laid-out t (clutOffset t) (inputs t) (outputs t) table h .laid in
+    omega (arith, a .whole, a .start-is)
+
 -- a table that is there has the grid and the output channels that are answered
 table-told : (t : List ℕ) (table : Table) → tableOf t ≡ is table → 1 ≤ table .size → (take (min (inputs t) 16) (gridOf t) ≡ table .grid) × (outputs t ≡ table .outputs)
 unfolding tableOf gridOf
@@ -77,9 +83,8 @@ table-told t table = by (eqb (clutOffset t) 0)
     by true h l = let e : 0 ≡ table .size = cc in absurd (omega arith)
     by false h l =
         let a = laid-out t (clutOffset t) (inputs t) (outputs t) table h .laid in
-        let room : clutOffset t + 16 ≤ length t = omega (arith, a .whole, a .start-is) in
         let few : min (inputs t) 16 ≤ 16 = omega arith in
-        (ap (take (min (inputs t) 16)) (bytes-part t (clutOffset t) 16 room) ∙ take-take (min (inputs t) 16) 16 (drop (clutOffset t) t) few ∙ sym (a .grid-is), sym (a .outputs-are))
+        (ap (take (min (inputs t) 16)) (bytes-part t (clutOffset t) 16 (grid-inside t table h)) ∙ take-take (min (inputs t) 16) 16 (drop (clutOffset t) t) few ∙ sym (a .grid-is), sym (a .outputs-are))
 
 told-length : (grid : List ℕ) (f : Abm) (table : Table) → take (min (f .inputs) 16) grid ≡ table .grid → f .outputs ≡ table .outputs → f .size ≡ table .size → lengthOf (toldTable grid f) ≡ lengthOf table
 told-length grid f table a b c = rw (a, b, c) refl

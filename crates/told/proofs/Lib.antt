@@ -1,2 +1,2 @@
-pub mod Putting
+pub mod Rows
 pub mod Telling

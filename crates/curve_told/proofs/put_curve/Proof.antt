@@ -3,7 +3,7 @@
 use mathlib.Core.Path.{refl}
 use mathlib.Core.List.{[], _∷_}
 use Rattle.curve_meaning.specs.Answer.{words}
-use Rattle.told.proofs.Putting.{two-rows}
+use Rattle.told.proofs.Rows.{two-rows}
 use borrow.Author.Needs.{needs}
 use Rattle.curve_told.proofs.put_curve.Statement.{statement}
 use Rattle.curve_told.proofs.put_curve.Tie as tie

@@ -5,7 +5,7 @@ use mathlib.Core.List.{_++_}
 use lib.ListN.{length-append}
 use Rattle.lut_meaning.specs.Answer.{tableFrom}
 use Rattle.lut_told.specs.Layout.{abmHead, abmParts}
-use Rattle.told.proofs.Putting.{three-rows}
+use Rattle.told.proofs.Rows.{three-rows}
 use borrow.Author.Needs.{needs}
 use Rattle.lut_told.proofs.put_abm.Statement.{statement}
 use Rattle.lut_told.proofs.put_abm.Tie as tie

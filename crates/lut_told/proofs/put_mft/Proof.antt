@@ -3,7 +3,7 @@
 use mathlib.Core.Path.{refl}
 use Rattle.mft_meaning.specs.Answer.{fieldsFrom}
 use Rattle.lut_told.specs.Layout.{mftHead, mftRanges}
-use Rattle.told.proofs.Putting.{three-rows}
+use Rattle.told.proofs.Rows.{three-rows}
 use borrow.Author.Needs.{needs}
 use Rattle.lut_told.proofs.put_mft.Statement.{statement}
 use Rattle.lut_told.proofs.put_mft.Tie as tie

@@ -3,7 +3,7 @@
 use Prim.Native.Nat.{_-_}
 use lib.ListN.{length}
 use borrow.Author.Needs.{needs}
-use Rattle.told.proofs.Putting.{Putting, begins, turns, full, done}
+use Rattle.fields.proofs.Putting.{Putting, begins, turns, full, done}
 use Rattle.told.proofs.put_numbers.Statement.{statement}
 use Rattle.told.proofs.put_numbers.Tie as tie
 
