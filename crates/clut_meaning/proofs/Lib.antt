@@ -3,3 +3,4 @@ pub mod Unique
 pub mod Conforms
 pub mod Inside
 pub mod Cases
+pub mod Written

@@ -3,3 +3,4 @@ pub mod Clut
 pub mod Answer
 pub mod Standard
 pub mod Cases
+pub mod Written

@@ -4,3 +4,4 @@ pub mod Answer
 pub mod Curve
 pub mod Standard
 pub mod Cases
+pub mod Written

@@ -9,3 +9,4 @@ pub mod Stores
 pub mod Fills
 pub mod Once
 pub mod Putting
+pub mod Written

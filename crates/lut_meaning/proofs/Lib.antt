@@ -6,3 +6,4 @@ pub mod Inside
 pub mod More
 pub mod Conforms
 pub mod Cases
+pub mod Written

@@ -6,3 +6,4 @@ pub mod Abm
 pub mod Lut
 pub mod Standard
 pub mod Cases
+pub mod Written

@@ -5,3 +5,4 @@ pub mod Accepted
 pub mod Inside
 pub mod Conforms
 pub mod Cases
+pub mod Written

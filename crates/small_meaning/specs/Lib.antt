@@ -4,3 +4,4 @@ pub mod Layout
 pub mod Small
 pub mod Standard
 pub mod Cases
+pub mod Written
