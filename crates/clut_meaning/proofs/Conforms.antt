@@ -1,112 +1,135 @@
--- Conformance to the colour table of lutAToBType and lutBToAType, both ways: a table that is laid out as the standard says, and keeps
--- within what this library asks besides, is accepted; and what is accepted is laid out so. Check 4 and check 18 ask nothing more: no
--- partial product is above the entries, and the last point's number is one less than the points.
+-- Conformance to the CLUT element as `icc` writes it, both ways.
 -- Assumes nothing.
-use Prim.Native.Nat.{ℕ, zero, suc, _+_, _*_, _^_, _≤_, _<_}
+use Prim.Native.Nat.{ℕ, zero, suc, _+_, _*_, _-_, _≤_, _<_, min}
 use native.Mathlib.Omega.{arith}
-use native.Mathlib.Nat.{mul-assoc, mul-le-mul-left}
-use mathlib.Core.Path.{_≡_, refl, subst}
-use mathlib.Core.Bool.{false, _||_}
-use mathlib.Core.List.{List, [], _∷_, _++_}
-use lib.Dec.{ltb, leb, eqb}
-use lib.ListN.{length, getD}
-use borrow.Author.Tests.{ne-eqb, le-ltb, lt-leb, ltb-false, eqb-false}
-use Rattle.fields.proofs.Choice.{each, neither-left, neither-right}
-use Rattle.clut_meaning.specs.Clut.{Seen, is, no, some, isOver, isFlat, partials, overflows, mostEntries, gridAt, tableAt, shapeOf, clutOf}
-use Rattle.clut_meaning.specs.Standard.{Laid, Within}
-use Rattle.clut_meaning.specs.Table.{Table, product, lastOf}
-use Rattle.clut_meaning.proofs.Grid.{factors, last-below}
+use mathlib.Core.Path.{_≡_, refl, sym, ap, _∙_}
+use mathlib.Core.List.{List, [], _∷_, _++_, append-assoc}
+use lib.ListN.{length, getD, take, drop, length-append, length-drop}
+use lib.Seq.{take-at, getD-at, getD-drop, length-take-le}
+use Rattle.icc.specs.Elements.{Stands, Entries, bytes, words, precision, count, entryBytes, points, Clut, clutElement, ClutSized}
+use Rattle.icc.specs.Numbers.{each16, Bytes}
+use Rattle.fields.proofs.Written.{length16, then8, row8, row16, halvesAt, halves-length}
+use Rattle.clut_meaning.specs.Clut.{is, gridAt, clutOf}
+use Rattle.clut_meaning.specs.Table.{Table, product, entriesOf, lengthOf}
+use Rattle.clut_meaning.specs.Standard.{Taken, told, Standing}
+use Rattle.clut_meaning.proofs.Accepted.{Laid, Within, conforms, accepted}
 
--- ---- what is laid out so is accepted
+-- ---- the numbers of a CLUT
 
--- no dimension is below 2
-none-flat : (gs : List ℕ) → ((i : ℕ) → i < length gs → 2 ≤ getD gs i 0) → some isFlat gs ≡ false
-unfolding some
-none-flat [] h = refl
-none-flat (g ∷ gs) h = rw (le-ltb g 2 (h 0 (omega arith)), none-flat gs (λ i l. h (suc i) (omega arith)))
+points-are : (gs : List ℕ) → points gs ≡ product gs
+unfolding points product
+points-are [] = refl
+points-are (g ∷ gs) = rw (points-are gs)
 
--- no partial product is above the whole, if that is not 0
-none-over : (p : ℕ) (fs : List ℕ) → 1 ≤ product fs → p * product fs < 2 ^ 32 → some isOver (partials p fs) ≡ false
-unfolding some partials product
-none-over p [] h l = let w : p < 2 ^ 32 = omega arith in rw (lt-leb _ _ w)
-none-over p (x ∷ xs) h l =
-    let one : 1 ≤ product xs = factors x (product xs) h .1 in
-    let w : p < 2 ^ 32 = omega (arith, mul-le-mul-left p h) in
-    let r : p * x * product xs < 2 ^ 32 = rw (mul-assoc p x (product xs)) l in
-    rw (lt-leb _ _ w) (none-over (p * x) xs one r)
+entry-length : (e : Entries) → length (entryBytes e) ≡ count e * precision e
+unfolding entryBytes count precision
+entry-length (bytes ns) = omega arith
+entry-length (words ns) = omega (arith, length16 ns)
 
-product-last : (gs : List ℕ) (n : ℕ) → product (gs ++ (n ∷ [])) ≡ product gs * n
-unfolding product
-product-last [] n = omega arith
-product-last (g ∷ gs) n = rw (product-last gs n) (omega arith)
+precision-least : (e : Entries) → 1 ≤ precision e
+unfolding precision
+precision-least (bytes ns) = omega arith
+precision-least (words ns) = omega arith
 
--- the table that is read there
-there : (t : List ℕ) (at inputs outputs : ℕ) (table : Table) → Laid t at inputs outputs table → tableAt t at (gridAt t at inputs) outputs ≡ table
-there t at inputs outputs table h = rw (← h .grid-is, ← h .outputs-are, ← h .start-is, ← h .size-is)
+precision-most : (e : Entries) → precision e ≤ 2
+unfolding precision
+precision-most (bytes ns) = omega arith
+precision-most (words ns) = omega arith
 
-module _ (t : List ℕ) (at inputs outputs : ℕ) where
-  abbrev read : Table
-  read = tableAt t at (gridAt t at inputs) outputs
+-- ---- written, then read
 
-  read-accepted : Laid t at inputs outputs read → Within read → clutOf t at inputs outputs ≡ is read
-  unfolding clutOf shapeOf
-  read-accepted h w =
-      let grid : List ℕ = gridAt t at inputs in
-      let n : ℕ = product grid * outputs in
-      let v : some isFlat grid ≡ false = none-flat grid (w .wide) in
-      let header : at + 20 ≤ length t = omega (arith, h .whole) in
-      let no-over : overflows grid outputs ≡ false = none-over 1 (grid ++ (outputs ∷ [])) (rw (product-last grid outputs) (w .one)) (rw (product-last grid outputs) (omega (arith, w .few))) in
-      let some-are : n ≡ 0 → ⊥ = λ e. omega (arith, w .one) in
-      rw (le-ltb _ _ header, no-over, ne-eqb _ _ some-are, le-ltb _ _ (w .few), v, lt-leb _ _ (last-below read (w .one)), le-ltb _ _ (h .size-least), le-ltb _ _ (h .size-most), le-ltb _ _ (h .whole))
+module _ (t : List ℕ) (at inputs outputs : ℕ) (c : Clut) (s : Stands t at (clutElement c)) (z : ClutSized inputs outputs c) where
+  entries-are : entriesOf (told at outputs c) ≡ count (c .entries)
+  entries-are = rw (← points-are (c .grid)) (sym (z .all-entries))
 
-  pub conforms : (table : Table) → Laid t at inputs outputs table → Within table → clutOf t at inputs outputs ≡ is table
-  conforms table h w = let e = there t at inputs outputs table h in rw (← e) (read-accepted (rw (← e) at h) (rw (← e) at w))
+  -- the data of the table are the entries
+  pub told-length : lengthOf (told at outputs c) ≡ length (entryBytes (c .entries))
+  told-length = rw (entries-are) (sym (entry-length (c .entries)))
 
--- ---- what is accepted is laid out so
+  abbrev behind-grid : List ℕ
+  behind-grid = precision (c .entries) ∷ c .pad1 ∷ c .pad2 ∷ c .pad3 ∷ (entryBytes (c .entries) ++ s .behind)
 
-each-wide : (gs : List ℕ) → some isFlat gs ≡ false → (i : ℕ) → i < length gs → 2 ≤ getD gs i 0
-unfolding some
-each-wide [] h i l = absurd (omega arith)
-each-wide (g ∷ gs) h zero l = ltb-false g 2 (neither-left (ltb g 2) (some isFlat gs) h)
-each-wide (g ∷ gs) h (suc i) l = each-wide gs (neither-right (ltb g 2) (some isFlat gs) h) i (omega arith)
+  there : drop at t ≡ c .grid ++ (c .unused ++ behind-grid)
+  unfolding clutElement
+  there = s .is ∙ simp append-assoc
 
-pub record Accepted (t : List ℕ) (at inputs outputs : ℕ) (table : Table) : Type 0 where
-  pub laid : Laid t at inputs outputs table
-  pub within : Within table
-
-Facts : List ℕ → ℕ → ℕ → ℕ → Seen → Type 0
-Facts t at inputs outputs (is table) = Accepted t at inputs outputs table
-Facts t at inputs outputs (no n) = Unit
-
-facts : (t : List ℕ) (at inputs outputs : ℕ) → Facts t at inputs outputs (clutOf t at inputs outputs)
-unfolding Facts clutOf shapeOf
-facts t at inputs outputs =
-    let P : Seen → Type 0 = Facts t at inputs outputs in
-    let grid : List ℕ = gridAt t at inputs in
-    let n : ℕ = product grid * outputs in
-    let s : ℕ = getD t (at + 16) 0 in
-    each P (ltb (length t) (at + 20)) _ _ (λ _. tt)
-    (λ _. each P (overflows grid outputs) _ _ (λ _. tt)
-    (λ _. each P (eqb n 0) _ _ (λ _. tt)
-    (λ z. each P (ltb mostEntries n) _ _ (λ _. tt)
-    (λ m. each P (some isFlat grid) _ _ (λ _. tt)
-    (λ f. each P (leb n (lastOf grid * outputs)) _ _ (λ _. tt)
-    (λ _. each P (ltb s 1 || ltb 2 s) _ _ (λ _. tt)
-    (λ d. each P (ltb (length t) (at + 20 + n * s)) _ _ (λ _. tt)
-    (λ e.
-    record {
-      laid = record {
-        grid-is = refl;
+  laid : Laid t at inputs outputs (told at outputs c)
+  laid =
+      let n : min inputs 16 ≡ length (c .grid) = omega (arith, z .dimensions, z .sixteen) in
+      let k : length (c .grid ++ c .unused) ≡ 16 = length-append (c .grid) (c .unused) ∙ z .sixteen in
+      let long : length (drop at t) ≡ 20 + length (entryBytes (c .entries)) + length (s .behind) = ap length there ∙ simp length-append (omega (arith, z .sixteen)) in
+      record {
+        grid-is = sym (rw (there, n) (take-at (c .grid) (c .unused ++ behind-grid) (length (c .grid)) refl));
         outputs-are = refl;
         start-is = refl;
-        size-is = refl;
-        size-least = ltb-false s 1 (neither-left (ltb s 1) (ltb 2 s) d);
-        size-most = ltb-false 2 s (neither-right (ltb s 1) (ltb 2 s) d);
-        whole = ltb-false (length t) _ e;
-      };
-      within = record { wide = each-wide grid f; one = (let y = eqb-false n 0 z in omega arith); few = ltb-false mostEntries n m };
-    }))))))))
+        size-is = sym (sym (getD-drop at t 16 0) ∙ rw (there, ← append-assoc (c .grid) (c .unused) behind-grid) (getD-at (c .grid ++ c .unused) _ _ 0 16 k));
+        size-least = precision-least (c .entries);
+        size-most = precision-most (c .entries);
+        whole = omega (arith, long, length-drop at t, told-length);
+      }
 
-pub accepted : (t : List ℕ) (at inputs outputs : ℕ) (table : Table) → clutOf t at inputs outputs ≡ is table → Accepted t at inputs outputs table
-unfolding Facts
-accepted t at inputs outputs table h = subst (Facts t at inputs outputs) h (facts t at inputs outputs)
+  pub written-read : Taken c → clutOf t at inputs outputs ≡ is (told at outputs c)
+  written-read w =
+      conforms t at inputs outputs (told at outputs c) laid
+      record { wide = w .wide; one = rw entries-are (w .one); few = rw entries-are (w .few) }
+
+-- ---- read, then written
+
+abbrev tableWith : List ℕ → ℕ → ℕ → ℕ → Table
+tableWith grid outputs start size = record { grid = grid; outputs = outputs; start = start; size = size }
+
+regroup : (g u d x : List ℕ) (p a b c : ℕ) → g ++ (u ++ (p ∷ a ∷ b ∷ c ∷ (d ++ x))) ≡ g ++ u ++ (p ∷ []) ++ (a ∷ b ∷ c ∷ []) ++ d ++ x
+regroup g u d x p a b c = simp append-assoc
+
+module _ (t : List ℕ) (b : Bytes t) (at inputs outputs : ℕ) (few : inputs ≤ 16) (table : Table) (h : Laid t at inputs outputs table) (w : Within table) where
+  abbrev n : ℕ
+  n = min inputs 16
+
+  -- the number of entries, and the places of the bytes behind the grid
+  abbrev k : ℕ
+  k = entriesOf table
+
+  abbrev i17 : ℕ
+  i17 = at + 16 + 1
+
+  abbrev i20 : ℕ
+  i20 = i17 + 1 + 1 + 1
+
+  abbrev clutWith : Entries → Clut
+  clutWith e =
+      record { grid = gridAt t at inputs; unused = take (16 - n) (drop (at + n) t); pad1 = getD t i17 0; pad2 = getD t (i17 + 1) 0; pad3 = getD t (i17 + 1 + 1) 0; entries = e }
+
+  -- with the entries that stand there
+  standing : (e : Entries) (x : List ℕ) → precision e ≡ table .size → count e ≡ k → drop i20 t ≡ entryBytes e ++ x → Standing t at inputs outputs table
+  unfolding clutElement
+  standing e x p c d =
+      let long : at + 20 ≤ length t = omega (arith, h .whole, h .start-is) in
+      let ng : length (gridAt t at inputs) ≡ n = length-take-le n (drop at t) (omega (arith, length-drop at t)) in
+      let nu : length (take (16 - n) (drop (at + n) t)) ≡ 16 - n = length-take-le (16 - n) (drop (at + n) t) (omega (arith, length-drop (at + n) t)) in
+      let m : at + 16 ≡ at + n + (16 - n) = omega arith in
+      let d16 : drop (at + 16) t ≡ precision e ∷ getD t i17 0 ∷ getD t (i17 + 1) 0 ∷ getD t (i17 + 1 + 1) 0 ∷ (entryBytes e ++ x) = then8 t (at + 16) (omega arith) (sym (h .size-is) ∙ sym p) (then8 t i17 (omega arith) refl (then8 t (i17 + 1) (omega arith) refl (then8 t (i17 + 1 + 1) (omega arith) refl d))) in
+      let all = row8 t n at (row8 t (16 - n) (at + n) (ap (λ (i : ℕ). drop i t) (sym m) ∙ d16)) in
+      record {
+        clut = clutWith e;
+        stands = record { behind = x; is = all ∙ regroup (gridAt t at inputs) (take (16 - n) (drop (at + n) t)) (entryBytes e) x _ _ _ _ };
+        sized = record { dimensions = omega arith; sixteen = omega arith; all-entries = c ∙ ap (λ (g : List ℕ). product g * table .outputs) (h .grid-is) ∙ ap (λ (o : ℕ). product (gridAt t at inputs) * o) (h .outputs-are) ∙ sym (ap (λ (q : ℕ). q * outputs) (points-are (gridAt t at inputs))) };
+        taken = record { wide = rw (h .grid-is) at (w .wide); one = rw c (w .one); few = rw c (w .few) };
+        told-is = ap (λ (g : List ℕ). tableWith g (table .outputs) (table .start) (table .size)) (h .grid-is) ∙ ap (λ (o : ℕ). tableWith (gridAt t at inputs) o (table .start) (table .size)) (h .outputs-are) ∙ ap (λ (i : ℕ). tableWith (gridAt t at inputs) outputs i (table .size)) (h .start-is) ∙ ap (tableWith (gridAt t at inputs) outputs (at + 20)) (sym p);
+      }
+
+  by-size : (s : ℕ) → s ≡ table .size → 1 ≤ s → s ≤ 2 → i20 + k * s ≤ length t → Standing t at inputs outputs table
+  unfolding precision count entryBytes
+  by-size zero e l m r = absurd (omega arith)
+  by-size (suc zero) e l m r =
+      let long : k ≤ length (drop i20 t) = omega (arith, length-drop i20 t) in
+      standing (bytes (take k (drop i20 t))) (drop (i20 + k) t) e (length-take-le k (drop i20 t) long) (row8 t k i20 refl)
+  by-size (suc (suc zero)) e l m r =
+      standing (words (halvesAt t i20 k)) (drop (i20 + 2 * k) t) e (halves-length t i20 k) (row16 t b k i20 (omega arith) refl refl)
+  by-size (suc (suc (suc s))) e l m r = absurd (omega arith)
+
+-- sixteen channels at most have their grid points in the element
+pub read-written : (t : List ℕ) → Bytes t → (at inputs outputs : ℕ) → inputs ≤ 16 → (table : Table) → clutOf t at inputs outputs ≡ is table → Standing t at inputs outputs table
+read-written t b at inputs outputs few table v =
+    let a = accepted t at inputs outputs table v in
+    let h = a .laid in
+    by-size t b at inputs outputs few table h (a .within) (table .size) refl (h .size-least) (h .size-most) (omega (arith, h .whole, h .start-is))

@@ -3,4 +3,3 @@ pub mod Clut
 pub mod Answer
 pub mod Standard
 pub mod Cases
-pub mod Written

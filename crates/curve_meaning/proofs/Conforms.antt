@@ -1,85 +1,206 @@
--- Conformance to curveType and parametricCurveType, both ways: a curve that is laid out as the standard says, and keeps within what
--- this library asks besides, is accepted with its fields; and what is accepted is laid out so. The reserved bytes are not looked at.
+-- Conformance to curveType and parametricCurveType, both ways: a curve that the standard writes, with any reserved bytes and anything behind it,
+-- is seen as what was written; and a curve that is seen is what the standard writes of its fields.
 -- Assumes nothing.
-use Prim.Native.Nat.{ℕ, _+_, _*_, _≤_}
+use Prim.Native.Nat.{ℕ, zero, suc, _+_, _*_, _≤_}
 use native.Mathlib.Omega.{arith}
-use mathlib.Core.Path.{_≡_, refl, subst}
-use mathlib.Core.Bool.{Bool, true, false, _&&_}
-use mathlib.Core.List.{List}
-use lib.Dec.{ltb, leb, eqb}
-use lib.ListN.{length, getD}
-use borrow.Author.Tests.{ne-eqb, le-ltb, ltb-false, eqb-true, eqb-false}
-use Rattle.fields.specs.Bytes.{u16At, u32At}
+use mathlib.Core.Path.{_≡_, refl, sym, ap, _∙_}
+use mathlib.Core.Bool.{true, false, and-false, false≢true}
+use mathlib.Core.List.{List, [], _∷_, _++_}
+use lib.Dec.{eqb}
+use lib.ListN.{length, getD, take, drop, length-append, length-take, length-drop}
+use borrow.Author.Tests.{le-ltb, ne-eqb}
+use Rattle.icc.specs.Curves.{Curve, sampled, parametric, curveElement, curveType, Function, type0, type1, type2, type3, type4, encoded, parameters, Defined, parametricCurveType}
+use Rattle.icc.specs.Numbers.{be16, be32, each16, each32, Is32, Each32, Bytes}
+use Rattle.fields.proofs.Written.{read16, read32, length16, length32, words-drop, words-written, below32, words-below, rest-bytes, part-bytes, then16, then32, row16, row32, halvesAt, halves-length}
+use Rattle.fields.specs.Bytes.{u16At, u32At, wordsAt}
 use Rattle.fields.specs.Tag.{signatureOf}
-use Rattle.fields.specs.declared.Kind.the-variants.{Curv, Para}
-use Rattle.fields.proofs.Choice.{each, second-fails}
 use Rattle.curve_meaning.specs.Answer.{value, answerOf}
-use Rattle.curve_meaning.specs.Curve.{trcOf, curveOf, tableOf, paraOf, divides, tagOf}
-use Rattle.curve_meaning.specs.Layout.{parameterCount, parameters}
-use Rattle.curve_meaning.specs.Shape.{Shape, Seen, is, no, empty, table, para, wordsOf, stepOf}
-use Rattle.curve_meaning.specs.Standard.{Laid, WellFormed, Within}
+use Rattle.curve_meaning.specs.Curve.{trcOf, curveOf, divides}
+use Rattle.curve_meaning.specs.Layout.{parameterCount}
+use Rattle.curve_meaning.specs.Shape.{Shape, is, empty, table, para, sizeOf, stepOf, wordsOf}
+use Rattle.curve_meaning.specs.Standard.{shapeOf, Fits, Begins, toldOf, stepTold, Tag, Lone}
 use Rattle.curve_meaning.specs.declared.Walk.{Walk}
+use Rattle.curve_meaning.specs.declared.Walk.the-variants.{Crate, Book}
+use Rattle.curve_meaning.proofs.Accepted.{CurveType, ParametricCurveType, Laid, Within, accepted, laid}
+use Rattle.curve_meaning.proofs.Inside.{book-step, size-least, Accepted, accepted-inside}
 
--- ---- what is laid out so is accepted
+-- the five functions: each has a type, and as many parameters as the type says
+known : (f : Function) → encoded f ≤ 4
+unfolding encoded
+known (type0 g) = omega arith
+known (type1 g a b) = omega arith
+known (type2 g a b c) = omega arith
+known (type3 g a b c d) = omega arith
+known (type4 g a b c d e f) = omega arith
 
--- a function that does not divide by 0
-steep : (type a : ℕ) → (divides type ≡ true → a ≡ 0 → ⊥) → divides type && eqb a 0 ≡ false
-steep type a h = by (divides type) refl
+counted : (f : Function) → parameterCount (encoded f) ≡ length (parameters f)
+unfolding encoded parameters parameterCount
+counted (type0 g) = refl
+counted (type1 g a b) = refl
+counted (type2 g a b c) = refl
+counted (type3 g a b c d) = refl
+counted (type4 g a b c d e f) = refl
+
+-- where the reader takes a function for one that divides, the standard does
+steep : (f : Function) → Defined f → divides (encoded f) ≡ true → getD (parameters f) 1 0 ≡ 0 → ⊥
+unfolding encoded parameters Defined divides
+steep (type0 g) d e = absurd (false≢true e)
+steep (type1 g a b) d e = d
+steep (type2 g a b c) d e = d
+steep (type3 g a b c d) u e = absurd (false≢true e)
+steep (type4 g a b c d e f) u k = absurd (false≢true k)
+
+-- ---- written, then read
+
+module _ (reserved : ℕ) (rest : List ℕ) where
+  curve-laid : (entries : List ℕ) → Is32 (length entries) → CurveType (curveType reserved entries ++ rest) (length entries)
+  unfolding curveType signatureOf
+  curve-laid entries h =
+      record { signature = refl; count = read32 (length entries) h; whole = omega (arith, length-append (each16 entries) rest, length16 entries) }
+
+  function-laid : (reserved2 : ℕ) (f : Function) → Each32 (parameters f) → ParametricCurveType (parametricCurveType reserved reserved2 f ++ rest) (encoded f) (parameters f)
+  unfolding parametricCurveType signatureOf
+  function-laid reserved2 f h =
+      let t : List ℕ = parametricCurveType reserved reserved2 f ++ rest in
+      let type : u16At t 8 ≡ encoded f = read16 (encoded f) (omega (arith, known f)) in
+      record {
+        signature = refl;
+        function = type;
+        known = known f;
+        given = rw (type, counted f, ← words-drop t 12 0 (length (parameters f))) (words-written (parameters f) rest h);
+        whole = omega (arith, counted f, length-append (each32 (parameters f)) rest, length32 (parameters f));
+      }
+
+-- a curve that the standard writes is seen as its shape
+pub written-read : (limit : ℕ) (c : Curve) (rest : List ℕ) → Fits limit c → curveOf limit (curveElement c ++ rest) ≡ is (shapeOf c)
+unfolding curveElement shapeOf Fits Laid Within
+written-read limit (sampled reserved []) rest (h, l) = accepted limit _ empty (curve-laid reserved rest [] h) tt
+written-read limit (sampled reserved (e ∷ es)) rest (h, l) =
+    accepted limit _ (table (suc (length es))) (omega arith, curve-laid reserved rest (e ∷ es) h) l
+written-read limit (parametric reserved reserved2 f) rest (h, d) =
+    accepted limit _ (para (encoded f) (parameters f)) (function-laid reserved rest reserved2 f h) (steep f d)
+
+-- and its size is that of what is written
+pub written-size : (c : Curve) → sizeOf (shapeOf c) ≡ length (curveElement c)
+unfolding curveElement shapeOf curveType parametricCurveType sizeOf each16
+written-size (sampled reserved []) = refl
+written-size (sampled reserved (e ∷ es)) = omega (arith, length16 es)
+written-size (parametric reserved reserved2 f) = omega (arith, counted f, length32 (parameters f))
+
+-- ---- read, then written
+
+abbrev second : List ℕ → ℕ
+second l = getD l 1 0
+
+module _ (limit : ℕ) (t : List ℕ) (b : Bytes t) where
+  abbrev p : ℕ → ℕ
+  p i = u32At t i
+
+  -- entries that stand there
+  curve-at : (s : Shape) (n : ℕ) → s ≡ shapeOf (sampled (p 4) (halvesAt t 12 n)) → CurveType t n → n ≤ limit → Begins limit t s
+  unfolding curveElement curveType signatureOf Fits
+  curve-at s n e h m =
+      let l = h .whole in
+      let c = halves-length t 12 n in
+      record {
+        curve = sampled (p 4) (halvesAt t 12 n);
+        rest = drop (12 + 2 * n) t;
+        shape-is = e;
+        fits = (omega (arith, c, h .count, below32 t b 8), omega (arith, c));
+        is = then32 t b 0 (omega arith) (h .signature) (then32 t b 4 (omega arith) refl (then32 t b 8 (omega arith) (h .count ∙ sym c) (row16 t b n 12 l refl refl)));
+      }
+
+  -- a function whose type and parameters stand there
+  function-at : (ps : List ℕ) (f : Function) → u16At t 8 ≡ encoded f → wordsAt t 12 (length (parameters f)) ≡ parameters f → ParametricCurveType t (encoded f) ps → (ps ≡ parameters f → Defined f) → Begins limit t (para (encoded f) ps)
+  unfolding curveElement shapeOf parametricCurveType signatureOf Fits
+  function-at ps f e w h d =
+      let n : ℕ = length (parameters f) in
+      let l : 12 + 4 * n ≤ length t = omega (arith, h .whole, counted f) in
+      let g : ps ≡ parameters f = sym (h .given) ∙ rw (e, counted f) w in
+      record {
+        curve = parametric (p 4) (u16At t 10) f;
+        rest = drop (12 + 4 * n) t;
+        shape-is = ap (para (encoded f)) g;
+        fits = (rw w at (words-below t b 12 n), d g);
+        is = then32 t b 0 (omega arith) (h .signature) (then32 t b 4 (omega arith) refl (then16 t b 8 (omega arith) e (then16 t b 10 (omega arith) refl (row32 t b n 12 l w refl))));
+      }
+
+  function-is : (type : ℕ) (ps : List ℕ) → ParametricCurveType t type ps → (divides type ≡ true → second ps ≡ 0 → ⊥) → Begins limit t (para type ps)
+  unfolding encoded parameters Defined divides wordsAt
+  function-is zero ps h d = function-at ps (type0 (p 12)) (h .function) refl h (λ g. tt)
+  function-is (suc zero) ps h d = function-at ps (type1 (p 12) (p 16) (p 20)) (h .function) refl h (λ g z. d refl (ap second g ∙ z))
+  function-is (suc (suc zero)) ps h d = function-at ps (type2 (p 12) (p 16) (p 20) (p 24)) (h .function) refl h (λ g z. d refl (ap second g ∙ z))
+  function-is (suc (suc (suc zero))) ps h d = function-at ps (type3 (p 12) (p 16) (p 20) (p 24) (p 28)) (h .function) refl h (λ g. tt)
+  function-is (suc (suc (suc (suc zero)))) ps h d = function-at ps (type4 (p 12) (p 16) (p 20) (p 24) (p 28) (p 32) (p 36)) (h .function) refl h (λ g. tt)
+  function-is (suc (suc (suc (suc (suc n))))) ps h d = absurd (omega (arith, h .known))
+
+  -- a curve that is seen is what the standard writes
+  pub read-written : (s : Shape) → curveOf limit t ≡ is s → Begins limit t s
+  unfolding Laid Within shapeOf halvesAt
+  read-written empty h = curve-at empty 0 refl (laid limit t empty h .0) (omega arith)
+  read-written (table zero) h = let w = laid limit t (table zero) h in absurd (omega (arith, w .0 .0))
+  read-written (table (suc n)) h =
+      let w = laid limit t (table (suc n)) h in
+      curve-at (table (suc n)) (suc n) (ap (λ (k : ℕ). table (suc k)) (sym (halves-length t 14 n))) (w .0 .1) (w .1)
+  read-written (para type ps) h = let w = laid limit t (para type ps) h in function-is type ps (w .0) (w .1)
+
+-- ---- the lone reader: a tag of the profile, and the words of its answer
+
+pub told-words : (start : ℕ) (c : Curve) → wordsOf start (shapeOf c) ≡ toldOf start c
+unfolding toldOf wordsOf shapeOf encoded parameters parameterCount
+told-words start (sampled reserved []) = refl
+told-words start (sampled reserved (e ∷ es)) = refl
+told-words start (parametric reserved reserved2 (type0 g)) = refl
+told-words start (parametric reserved reserved2 (type1 g a b)) = refl
+told-words start (parametric reserved reserved2 (type2 g a b c)) = refl
+told-words start (parametric reserved reserved2 (type3 g a b c d)) = refl
+told-words start (parametric reserved reserved2 (type4 g a b c d e f)) = refl
+
+-- and the step
+pub told-step : (walk : Walk) (c : Curve) → stepOf walk (shapeOf c) ≡ stepTold walk c
+unfolding stepTold stepOf shapeOf
+told-step Book c = book-step (shapeOf c) ∙ written-size c
+told-step Crate (sampled reserved []) = refl
+told-step Crate (sampled reserved (e ∷ es)) = written-size (sampled reserved (e ∷ es))
+told-step Crate (parametric reserved reserved2 f) = written-size (parametric reserved reserved2 f)
+
+-- a curve has its first 12 bytes
+long : (c : Curve) (rest : List ℕ) → 12 ≤ length (curveElement c ++ rest)
+long c rest = omega (arith, length-append (curveElement c) rest, written-size c, size-least (shapeOf c))
+
+-- a size that is not 0
+some : (n : ℕ) → eqb (suc n) 0 ≡ false
+some n = ne-eqb (suc n) 0 (λ z. omega arith)
+
+pub lone-read : (walk : Walk) (limit : ℕ) (profile : List ℕ) (entry size : ℕ) (c : Curve) (rest : List ℕ) → Fits limit c → Tag profile entry size (curveElement c ++ rest) → trcOf walk limit profile entry size ≡ value (toldOf 12 c) (stepTold walk c)
+unfolding trcOf answerOf Tag
+lone-read walk limit profile entry zero c rest f e =
+    let l : entry + 12 ≤ length profile = omega (arith, ap length e, long c rest, length-drop entry profile) in
+    let first : entry + 4 ≤ length profile = omega arith in
+    let inside : entry + 0 ≤ length profile = omega arith in
+    simp (le-ltb (length profile) (entry + 4) first, le-ltb (length profile) (entry + 0) inside, e, written-read limit c rest f, told-words 12 c, told-step walk c)
+lone-read walk limit profile entry (suc n) c rest f (e, inside) =
+    let l : 12 ≤ suc n = omega (arith, ap length e, long c rest, length-take (suc n) (drop entry profile)) in
+    let first : entry + 4 ≤ length profile = omega arith in
+    simp (le-ltb (length profile) (entry + 4) first, le-ltb (suc n) 12 l, and-false, le-ltb (length profile) (entry + suc n) inside, some n, e, written-read limit c rest f, told-words 12 c, told-step walk c)
+
+-- and a value is of such a tag
+pub lone-written : (walk : Walk) (limit : ℕ) (profile : List ℕ) → Bytes profile → (entry size : ℕ) (ws : List ℕ) (consumed : ℕ) → trcOf walk limit profile entry size ≡ value ws consumed → Lone walk limit profile entry size ws consumed
+unfolding Tag
+lone-written walk limit profile b entry size ws consumed h = by size (accepted-inside walk limit profile entry size ws consumed h)
   where
-    by : (d : Bool) → divides type ≡ d → d && eqb a 0 ≡ false
-    by true e = ne-eqb a 0 (h e)
-    by false e = refl
+    of : (size : ℕ) (t : List ℕ) → Bytes t → (s : Shape) → curveOf limit t ≡ is s → ws ≡ wordsOf 12 s → consumed ≡ stepOf walk s → ((x : List ℕ) → t ≡ x → Tag profile entry size x) → Lone walk limit profile entry size ws consumed
+    of size t bt s seen w k stands =
+        let c = read-written limit t bt s seen in
+        record {
+          curve = c .curve;
+          rest = c .rest;
+          fits = c .fits;
+          words-are = w ∙ ap (wordsOf 12) (c .shape-is) ∙ told-words 12 (c .curve);
+          consumed-is = k ∙ ap (stepOf walk) (c .shape-is) ∙ told-step walk (c .curve);
+          stands = stands _ (c .is);
+        }
 
-pub accepted : (limit : ℕ) (t : List ℕ) (s : Shape) → Laid t s → Within limit s → curveOf limit t ≡ is s
-unfolding Laid Within curveOf tableOf paraOf signatureOf
-accepted limit t empty h w =
-    let l : 12 ≤ length t = omega (arith, h .whole) in
-    simp (le-ltb (length t) 12 l, h .signature, h .count)
-accepted limit t (table n) (m, h) w =
-    let l : 12 ≤ length t = omega (arith, h .whole) in
-    let z : n ≡ 0 → ⊥ = λ e. omega arith in
-    simp (le-ltb (length t) 12 l, h .signature, h .count, ne-eqb n 0 z, le-ltb limit n w, le-ltb (length t) (12 + 2 * n) (h .whole))
-accepted limit t (para type ps) h w =
-    let l : 12 ≤ length t = omega (arith, h .whole) in
-    simp (le-ltb (length t) 12 l, h .signature, h .function, le-ltb 4 type (h .known), le-ltb (length t) (12 + 4 * parameterCount type) (h .whole), simp (h .function) at (h .given), steep type (getD ps 1 0) w)
-
-pub conforms : (limit : ℕ) (t : List ℕ) (s : Shape) → WellFormed t s → Within limit s → curveOf limit t ≡ is s
-conforms limit t s h w = accepted limit t s (h .laid) w
-
--- ---- what is accepted is laid out so
-
-Facts : ℕ → List ℕ → Seen → Type 0
-Facts limit t (is s) = Laid t s × Within limit s
-Facts limit t (no n) = Unit
-
-facts : (limit : ℕ) (t : List ℕ) → Facts limit t (curveOf limit t)
-unfolding Facts Laid Within curveOf tableOf paraOf
-facts limit t =
-    let P : Seen → Type 0 = Facts limit t in
-    let n : ℕ = u32At t 8 in
-    let type : ℕ = u16At t 8 in
-    each P (ltb (length t) 12) _ _ (λ _. tt)
-    (λ l. each P (eqb (u32At t 0) (signatureOf Curv)) _ _
-    (λ k. each P (eqb n 0) _ _
-    (λ z. (record { signature = eqb-true _ _ k; count = eqb-true n 0 z; whole = ltb-false (length t) 12 l }, tt))
-    (λ z. each P (ltb limit n) _ _ (λ _. tt)
-    (λ w. each P (ltb (length t) (12 + 2 * n)) _ _ (λ _. tt)
-    (λ e. ((let y = eqb-false n 0 z in omega arith, record { signature = eqb-true _ _ k; count = refl; whole = ltb-false (length t) _ e }), ltb-false limit n w)))))
-    (λ _. each P (eqb (u32At t 0) (signatureOf Para)) _ _
-    (λ k. each P (ltb 4 type) _ _ (λ _. tt)
-    (λ m. each P (ltb (length t) (12 + 4 * parameterCount type)) _ _ (λ _. tt)
-    (λ e. each P (divides type && eqb (getD (parameters t) 1 0) 0) _ _ (λ _. tt)
-    (λ d. (record { signature = eqb-true _ _ k; function = refl; known = ltb-false 4 type m; given = refl; whole = ltb-false (length t) _ e }, λ v. eqb-false _ 0 (second-fails (divides type) _ d v))))))
-    (λ _. tt)))
-
-pub laid : (limit : ℕ) (t : List ℕ) (s : Shape) → curveOf limit t ≡ is s → Laid t s × Within limit s
-unfolding Facts
-laid limit t s h = subst (Facts limit t) h (facts limit t)
-
--- ---- the lone reader
-
--- a tag that lies in the profile and is not too short for one is answered as its bytes are laid out
-pub lone-accepted : (walk : Walk) (limit : ℕ) (p : List ℕ) (entry size : ℕ) (s : Shape) → entry + 4 ≤ length p → entry + size ≤ length p → leb 1 size && ltb size 12 ≡ false → Laid (tagOf p entry size) s → Within limit s → trcOf walk limit p entry size ≡ value (wordsOf 12 s) (stepOf walk s)
-unfolding trcOf answerOf
-lone-accepted walk limit p entry size s f l m h w =
-    simp (le-ltb (length p) (entry + 4) f, m, le-ltb (length p) (entry + size) l, accepted limit (tagOf p entry size) s h w)
+    by : (size : ℕ) → Accepted walk limit profile entry size ws consumed → Lone walk limit profile entry size ws consumed
+    by zero a = of zero (drop entry profile) (rest-bytes profile b entry) (a .curve .shape) (a .curve .seen) (a .curve .record-is) (a .curve .step-is) (λ x e. e)
+    by (suc n) a = of (suc n) (take (suc n) (drop entry profile)) (part-bytes profile b entry (suc n)) (a .curve .shape) (rw (some n) at (a .curve .seen)) (a .curve .record-is) (a .curve .step-is) (λ x e. (e, a .tag-in-profile))

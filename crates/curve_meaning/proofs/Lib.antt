@@ -1,7 +1,7 @@
 pub mod Told
 pub mod Unique
-pub mod Conforms
+pub mod Accepted
 pub mod Inside
+pub mod Conforms
 pub mod More
 pub mod Cases
-pub mod Written

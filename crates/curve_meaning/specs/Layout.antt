@@ -6,13 +6,10 @@
 --    8 to 11  count of entries              8 to  9  function type
 --   12 on     the entries, 2 bytes each    10 to 11  reserved, 0
 --                                          12 on     the parameters, 4 bytes each
-use Prim.Native.Nat.{ℕ, _+_, _*_, _≤_}
-use mathlib.Core.Path.{_≡_}
+use Prim.Native.Nat.{ℕ, _+_, _*_}
 use mathlib.Core.List.{List, [], _∷_}
-use lib.ListN.{length, getD}
+use lib.ListN.{getD}
 use Rattle.fields.specs.Bytes.{u16At, u32At, wordsAt}
-use Rattle.fields.specs.Tag.{signatureOf}
-use Rattle.fields.specs.declared.Kind.the-variants.{Curv, Para}
 
 -- curveType: how many entries follow, and how far n of them reach
 abbrev pub entryCount : List ℕ → ℕ
@@ -37,25 +34,3 @@ parametersEnd n = 12 + 4 * n
 
 abbrev pub parameters : List ℕ → List ℕ
 parameters t = wordsAt t 12 (parameterCount (functionType t))
-
--- the bytes t begin with a curveType of n entries
-pub record CurveType (t : List ℕ) (n : ℕ) : Type 0 where
-  pub signature : u32At t 0 ≡ signatureOf Curv
-  pub count : entryCount t ≡ n
-  pub whole : entriesEnd n ≤ length t
-
--- the bytes t begin with a parametricCurveType of this function type and these parameters
-pub record ParametricCurveType (t : List ℕ) (type : ℕ) (ps : List ℕ) : Type 0 where
-  pub signature : u32At t 0 ≡ signatureOf Para
-  pub function : functionType t ≡ type
-  pub known : type ≤ 4
-  pub given : parameters t ≡ ps
-  pub whole : parametersEnd (parameterCount type) ≤ length t
-
--- the reserved bytes, which no reader looks at
-pub record CurveReserved (t : List ℕ) : Type 0 where
-  pub four : u32At t 4 ≡ 0
-
-pub record ParametricReserved (t : List ℕ) : Type 0 where
-  pub four : u32At t 4 ≡ 0
-  pub two : u16At t 10 ≡ 0

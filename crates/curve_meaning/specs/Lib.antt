@@ -4,4 +4,3 @@ pub mod Answer
 pub mod Curve
 pub mod Standard
 pub mod Cases
-pub mod Written

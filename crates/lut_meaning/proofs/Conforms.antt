@@ -1,200 +1,576 @@
--- Conformance to lutAToBType and lutBToAType on the book walk, and to lut8Type and lut16Type, both ways: a tag whose elements are laid out as the standard says, and keep
--- within what this library asks besides, is accepted with its fields and its curves; and what is accepted is laid out so.
+-- Conformance to lutAToBType and lutBToAType, both ways: the head, the matrix and the CLUT on either walk; the curves on the book walk, and on the
+-- crate walk where no curve before a run's last is empty. And to lut16Type and lut8Type.
 -- Assumes nothing.
-use Prim.Native.Nat.{ℕ, _+_, _/_, _≤_}
+use Prim.Native.Nat.{ℕ, zero, suc, _+_, _*_, _/_, _≤_}
 use native.Mathlib.Omega.{arith}
-use mathlib.Core.Path.{_≡_, refl, sym, ap, _∙_}
-use mathlib.Core.Bool.{Bool, true, false, cond, _||_}
-use mathlib.Core.List.{List, [], _∷_, _++_}
+use native.Mathlib.Nat.{add-zero}
+use mathlib.Core.Path.{_≡_, refl, sym, ap, _∙_, subst}
+use mathlib.Core.Bool.{Bool, true, false, cond, _&&_, _||_, and-false}
+use mathlib.Core.List.{List, [], _∷_, _++_, map, append-assoc}
 use mathlib.Core.Logic.{_⊎_, inl, inr}
-use lib.Dec.{eqb}
-use lib.ListN.{length, drop, length-take, length-drop}
-use borrow.Author.Tests.{eq-eqb, ne-eqb, eqb-true, eqb-false, le-ltb}
+use lib.Dec.{ltb, eqb}
+use lib.ListN.{length, getD, take, drop, replicate, length-append, length-take, length-drop}
+use borrow.Author.Tests.{eq-eqb, ne-eqb, le-ltb, eqb-true, eqb-false, ltb-false}
+use Rattle.icc.specs.Elements.{Stands, Direction, aToB, bToA, signature, Head, headElement, curvesA, curvesMB, PlacedCurve, CurvesFrom, Bias, twelve, matrixElement, precision, entryBytes, Clut, clutElement, ClutSized, CurveSet, no-curves, some-curves, MatrixAt, no-matrix, the-matrix, ClutAt, no-clut, the-clut, LutParts, LutCurves}
+use Rattle.icc.specs.Numbers.{be16, be32, each16, each32, Is32, Each32, Bytes}
+use Rattle.icc.specs.Tables.{Matrix, Lut, nine, Sized, Entries16, lut16Type, lut8Type}
+use Rattle.fields.proofs.Written.{read32, words-drop, words-written, bytes-drop, bytes-written, below32, words-below, part-bytes, then8, then16, then32, row32}
+use Rattle.fields.specs.Bytes.{u16At, u32At, bytesAt, wordsAt}
 use Rattle.fields.specs.Place.{countedSize}
-use Rattle.fields.specs.Bytes.{u32At}
 use Rattle.fields.specs.Tag.{signatureOf}
 use Rattle.fields.specs.declared.Kind.the-variants.{Mab, Mba}
 use Rattle.clut_meaning.specs.Clut.{is, clutOf}
-use Rattle.clut_meaning.specs.Standard.{Within as TableWithin}
 use Rattle.clut_meaning.specs.Table.{Table, lengthOf}
-use Rattle.clut_meaning.proofs.Conforms.{conforms as table-conforms, accepted as table-accepted}
-use Rattle.curve_meaning.specs.Shape.{Shape, stepOf, is as seen, recordWords}
-use Rattle.curve_meaning.specs.Standard.{Laid, Within}
+use Rattle.clut_meaning.specs.Standard.{Taken as ClutTaken, told as tableTold}
+use Rattle.clut_meaning.proofs.Conforms.{told-length, written-read as clut-written, read-written as clut-read}
+use Rattle.curve_meaning.specs.Shape.{recordWords}
 use Rattle.curve_meaning.specs.declared.Walk.{Walk}
-use Rattle.curve_meaning.specs.declared.Walk.the-variants.{Book}
-use Rattle.curve_meaning.proofs.Conforms.{accepted as curve-accepted, laid as curve-laid}
-use Rattle.curve_meaning.proofs.Inside.{curve-inside, size-least, book-step}
-use Rattle.mft_meaning.specs.Answer.{Fields, State as Mft·State, answerOf, fieldsOf}
-use Rattle.mft_meaning.specs.Standard.{LaidOut as MftLaidOut, Asked as MftAsked}
-use Rattle.mft_meaning.proofs.Conforms.{start-least, start-before, type-known, conforms as mft-accepted, Accepted as MftAccepted, accepted as accepted-mft}
-use Rattle.run.specs.Run.{Placed, whole, raised, entryAt, runAt, endOf, Each}
-use Rattle.run.proofs.Runs.{entry-there, Reads, run-reads, reads-run, run-count}
+use Rattle.curve_meaning.specs.declared.Walk.the-variants.{Crate, Book}
+use Rattle.run.specs.Run.{Placed, whole, recordsOf, runAt, Each}
+use Rattle.run.specs.Standard.{seenOf, AllFit, Passes, Standing, NoneEmpty}
+use Rattle.run.proofs.Runs.{run-count}
+use Rattle.run.proofs.Conforms.{written-run, run-written, map-length, records-are, passes-by}
+use Rattle.run.proofs.Writing.{records-append, records-length}
 use Rattle.lut_meaning.specs.Abm.{noTable, tableOf, valueFrom, recordedOf, judgedOf, abmOf}
-use Rattle.lut_meaning.specs.Answer.{Abm, mft, abm, Answer, refuse, fromMft}
-use Rattle.lut_meaning.specs.Layout.{inputs, outputs, aOffset, mOffset, bOffset, matrixOffset, clutOffset, aCurves, mCurves, bCurves, planOf, recordsNeeded}
-use Rattle.lut_meaning.specs.Lut.{tagOf, byType, lutOf}
-use Rattle.lut_meaning.specs.Parts.{runA, runM, runB, runsJudged, curvesOf, matrixJudged}
-use Rattle.lut_meaning.specs.Standard.{Row, TableThere, TableNot, LaidOut, Kept, Asked}
+use Rattle.mft_meaning.specs.Answer.{Fields, State, answerOf}
+use Rattle.mft_meaning.specs.Layout.{isWide, isMft, matrixOf as mftMatrix}
+use Rattle.mft_meaning.specs.Mft.{mftOf}
+use Rattle.mft_meaning.specs.Standard.{told16, told8, Taken as MftTaken, Begins8, Begins16}
+use Rattle.mft_meaning.proofs.Conforms.{written-read16, written-read8, read-written as mft-written}
+use Rattle.lut_meaning.specs.Answer.{Abm, State as Abm·State, mft, abm, absent, refused, Answer, refuse, fromMft, leftBy}
 use Rattle.lut_meaning.specs.Judged.{good, ended}
-use Rattle.lut_meaning.proofs.Accepted.{abm-found, mft-found}
+use Rattle.lut_meaning.specs.Layout.{toPcs, inputs, outputs, bOffset, matrixOffset, mOffset, clutOffset, aOffset, present, deviceChannels, spaceChannels, aCurves, mCurves, bCurves, planOf, recordsNeeded, matrixOf, biasOf, gridOf}
+use Rattle.lut_meaning.specs.Lut.{byType, lutOf, leftOf}
+use Rattle.lut_meaning.specs.Parts.{runA, runM, runB, runsJudged, curvesOf, matrixJudged}
+use Rattle.lut_meaning.specs.Standard.{towardsPcs, curvesThere, matrixTold, biasTold, MatrixTaken, startTold, bytesTold, sizeTold, gridTold, ClutFits, told, recordsWritten, PartsTaken, CurvesTaken, PartsAs, TagAs, PassesBy}
+use Rattle.lut_meaning.proofs.Accepted.{IsValue, Accepted, accepted, mft-value, in-profile, abm-found, mft-found}
 use Rattle.lut_meaning.proofs.Inside.{matrix-inside}
-use Rattle.lut_meaning.proofs.Shared.{mab-is, mba-is}
 use Rattle.lut_meaning.proofs.Shared.{a-whole, m-whole, b-whole}
 
--- ---- one run
+-- ---- the head, as the reader has it
 
-module _ (limit : ℕ) (t : List ℕ) where
-  -- a curve that is laid out at an offset is seen there
-  seen-there : (at : ℕ) (s : Shape) → Laid (drop at t) s → Within limit s → entryAt limit t at ≡ seen s
-  unfolding entryAt
-  seen-there at s h w =
-      let e = curve-accepted limit (drop at t) s h w in
-      let l : at + 12 ≤ length t = omega (arith, curve-inside limit (drop at t) s e, size-least s, length-drop at t) in
-      rw (le-ltb (length t) (at + 12) l) e
+record Seen (t : List ℕ) (h : Head) : Type 0 where
+  to-pcs : toPcs t ≡ towardsPcs (h .direction)
+  i-is : inputs t ≡ h .inputChannels
+  o-is : outputs t ≡ h .outputChannels
+  b-is : bOffset t ≡ h .offsetB
+  matrix-is : matrixOffset t ≡ h .offsetMatrix
+  m-is : mOffset t ≡ h .offsetM
+  clut-is : clutOffset t ≡ h .offsetClut
+  a-is : aOffset t ≡ h .offsetA
 
-  -- and one that is seen there is laid out so
-  there-seen : (at : ℕ) (s : Shape) → entryAt limit t at ≡ seen s → Laid (drop at t) s × Within limit s
-  there-seen at s h = curve-laid limit (drop at t) s (entry-there limit t at s h .1)
+direction-is : (d : Direction) → eqb (signature d) (signatureOf Mab) ≡ towardsPcs d
+unfolding signatureOf
+direction-is aToB = refl
+direction-is bToA = refl
 
-  row-reads : (at : ℕ) (cs : List Placed) → Row t at cs → Kept limit cs → Reads Book limit t at cs
-  unfolding Row Reads Each
-  row-reads at [] h k = tt
-  row-reads at (c ∷ cs) (e, l, rest) (w, k) =
-      (e, seen-there at (c .shape) l w, row-reads (raised (at + stepOf Book (c .shape))) cs (rw (e, ← book-step (c .shape)) at rest) k)
+signature-fits : (d : Direction) → Is32 (signature d)
+signature-fits aToB = omega arith
+signature-fits bToA = omega arith
 
-  reads-row : (at : ℕ) (cs : List Placed) → Reads Book limit t at cs → Row t at cs × Kept limit cs
-  unfolding Row Reads Each
-  reads-row at [] h = (tt, tt)
-  reads-row at (c ∷ cs) (e, s, rest) =
-      let w = there-seen at (c .shape) s in
-      let r = reads-row (raised (endOf c)) cs (rw (book-step (c .shape), ← e) at rest) in
-      ((e, w .0, r .0), (w .1, r .1))
-
-  row-run : (at n : ℕ) (cs : List Placed) → Row t at cs → Kept limit cs → length cs ≡ n → runAt Book limit t at n ≡ record { curves = cs; end = whole }
-  row-run at n cs h k e = ap (runAt Book limit t at) (sym e) ∙ reads-run Book limit t at cs (row-reads at cs h k)
-
--- ---- the whole tag
-
-matrix-good : (t : List ℕ) → (matrixOffset t ≡ 0) ⊎ (matrixOffset t + 48 ≤ length t) → matrixJudged t ≡ good
-unfolding matrixJudged
-matrix-good t (inl e) = rw (eq-eqb (matrixOffset t) 0 e)
-matrix-good t (inr l) = rw (le-ltb (length t) (matrixOffset t + 48) l) (by (eqb (matrixOffset t) 0))
-  where
-    by : (b : Bool) → cond b good good ≡ good
-    by true = refl
-    by false = refl
-
-table-good : (t : List ℕ) (table : Table) → TableNot t table ⊎ TableThere t table → ((clutOffset t ≡ 0 → ⊥) → TableWithin table) → tableOf t ≡ is table
-unfolding tableOf
-table-good t table (inl h) w = rw (eq-eqb (clutOffset t) 0 (h .not-there), h .none)
-table-good t table (inr h) w = rw (ne-eqb (clutOffset t) 0 (h .there)) (table-conforms t (clutOffset t) (inputs t) (outputs t) table (h .laid) (w (h .there)))
-
-table-found : (t : List ℕ) (table : Table) → tableOf t ≡ is table → (TableNot t table ⊎ TableThere t table) × ((clutOffset t ≡ 0 → ⊥) → TableWithin table)
-unfolding tableOf
-table-found t table = by (eqb (clutOffset t) 0) refl
-  where
-    by : (b : Bool) → eqb (clutOffset t) 0 ≡ b → cond b (is noTable) (clutOf t (clutOffset t) (inputs t) (outputs t)) ≡ is table → (TableNot t table ⊎ TableThere t table) × ((clutOffset t ≡ 0 → ⊥) → TableWithin table)
-    by true e h = let z : clutOffset t ≡ 0 = eqb-true (clutOffset t) 0 e in (inl record { not-there = z; none = cc }, λ n. absurd (n z))
-    by false e h =
-        let w = table-accepted t (clutOffset t) (inputs t) (outputs t) table h in
-        (inr record { there = eqb-false (clutOffset t) 0 e; laid = w .laid }, λ _. w .within)
-
-module _ (limit : ℕ) (t : List ℕ) (table : Table) (a m b : List Placed) (h : LaidOut t table a m b) (k : Asked limit t table a m b) where
-  run-a : runA Book limit t (planOf t) ≡ record { curves = a; end = whole }
-  unfolding planOf
-  run-a = row-run limit t (aOffset t) (aCurves t) a (h .a-row) (k .a-kept) (h .a-count)
-
-  run-m : runM Book limit t (planOf t) ≡ record { curves = m; end = whole }
-  unfolding planOf
-  run-m = row-run limit t (mOffset t) (mCurves t) m (h .m-row) (k .m-kept) (h .m-count)
-
-  run-b : runB Book limit t (planOf t) ≡ record { curves = b; end = whole }
-  unfolding planOf
-  run-b = row-run limit t (bOffset t) (bCurves t) b (h .b-row) (k .b-kept) (h .b-count)
-
-  -- what is laid out so is accepted with its fields, if the slots suffice
-  pub conforms : (words : ℕ) → recordsNeeded t ≤ words / recordWords → abmOf Book limit t words ≡ valueFrom t (table .start) (lengthOf table) (table .size)
-  unfolding abmOf judgedOf recordedOf runsJudged ended
-  conforms words room =
-      rw (k .few-channels, matrix-good t (h .matrix), table-good t table (h .clut) (k .table-within), run-a, run-m, run-b, le-ltb (words / recordWords) (recordsNeeded t) room)
-
-  -- and its curves are those
-  pub conforms-curves : curvesOf Book limit t (planOf t) ≡ a ++ m ++ b
-  unfolding curvesOf
-  conforms-curves = rw (run-a, run-m, run-b)
-
--- either type is read alike
-either-type : (limit points : ℕ) (t : List ℕ) (words : ℕ) → (u32At t 0 ≡ signatureOf Mab) ⊎ (u32At t 0 ≡ signatureOf Mba) → byType Book limit points t words ≡ abmOf Book limit t words
-unfolding byType
-either-type limit points t words (inl e) = rw (mab-is t e, eq-eqb (u32At t 0) (signatureOf Mab) e)
-either-type limit points t words (inr e) = rw (mba-is t e, eq-eqb (u32At t 0) (signatureOf Mba) e) (by (eqb (u32At t 0) (signatureOf Mab)))
-  where
-    by : (b : Bool) → cond (b || true) (abmOf Book limit t words) (refuse 3) ≡ abmOf Book limit t words
-    by true = refl
-    by false = refl
-
--- in a profile: a tag that lies in it and is laid out so is accepted with its fields, if the slots suffice
-pub lone-conforms : (limit points : ℕ) (p : List ℕ) (entry size : ℕ) (table : Table) (a m b : List Placed) → entry + countedSize size ≤ length p → LaidOut (tagOf p entry size) table a m b → Asked limit (tagOf p entry size) table a m b → (words : ℕ) → recordsNeeded (tagOf p entry size) ≤ words / recordWords → lutOf Book limit points p entry size words ≡ valueFrom (tagOf p entry size) (table .start) (lengthOf table) (table .size)
-unfolding lutOf
-lone-conforms limit points p entry size table a m b l h k words room =
-    let t : List ℕ = tagOf p entry size in
-    let long : 48 ≤ countedSize size = omega (arith, k .long, length-take (countedSize size) (drop entry p)) in
-    rw (le-ltb (length p) (entry + countedSize size) l, le-ltb (countedSize size) 48 long)
-    (either-type limit points t words (h .type-is) ∙ conforms limit t table a m b h k words room)
-
--- what is accepted is laid out so, and keeps within what is asked
-pub record Laying (limit : ℕ) (t : List ℕ) (answer : Answer) : Type 0 where
-  pub table : Table
-  pub laid-out : LaidOut t table (runA Book limit t (planOf t) .curves) (runM Book limit t (planOf t) .curves) (runB Book limit t (planOf t) .curves)
-  pub asked : Asked limit t table (runA Book limit t (planOf t) .curves) (runM Book limit t (planOf t) .curves) (runB Book limit t (planOf t) .curves)
-  pub answer-is : answer ≡ valueFrom t (table .start) (lengthOf table) (table .size)
-
-pub laid : (limit points : ℕ) (p : List ℕ) (entry size words : ℕ) (f : Abm) → lutOf Book limit points p entry size words .state ≡ abm f → Laying limit (tagOf p entry size) (lutOf Book limit points p entry size words)
-unfolding planOf
-laid limit points p entry size words f h =
-    let t : List ℕ = tagOf p entry size in
-    let v = abm-found Book limit points p entry size words f h in
-    let w = v .behind in
-    let c = table-found t (w .table) (w .table-is) in
-    let a = reads-row limit t (aOffset t) _ (run-reads Book limit t (aOffset t) (aCurves t)) in
-    let m = reads-row limit t (mOffset t) _ (run-reads Book limit t (mOffset t) (mCurves t)) in
-    let b = reads-row limit t (bOffset t) _ (run-reads Book limit t (bOffset t) (bCurves t)) in
+head-seen : (h : Head) (rest : List ℕ) → Is32 (h .offsetB) → Is32 (h .offsetMatrix) → Is32 (h .offsetM) → Is32 (h .offsetClut) → Is32 (h .offsetA) → Seen (headElement h ++ rest) h
+unfolding headElement
+head-seen h rest fb fx fm fc fa =
     record {
-      table = w .table;
-      laid-out =
-          record {
-            type-is = v .type-is;
-            matrix = matrix-inside t (w .matrix-good);
-            clut = c .0;
-            a-row = a .0;
-            a-count = run-count Book limit t (aOffset t) (aCurves t) (a-whole Book limit t (planOf t) (w .runs-good));
-            m-row = m .0;
-            m-count = run-count Book limit t (mOffset t) (mCurves t) (m-whole Book limit t (planOf t) (w .runs-good));
-            b-row = b .0;
-            b-count = run-count Book limit t (bOffset t) (bCurves t) (b-whole Book limit t (planOf t) (w .runs-good));
-          };
-      asked =
-          record {
-            long = omega (arith, v .long, v .tag-in-profile, length-take (countedSize size) (drop entry p), length-drop entry p);
-            few-channels = w .few-channels;
-            table-within = c .1;
-            a-kept = a .1;
-            m-kept = m .1;
-            b-kept = b .1;
-          };
-      answer-is = v .as-abm ∙ w .answer-is;
+      to-pcs = ap (λ (n : ℕ). eqb n (signatureOf Mab)) (read32 (signature (h .direction)) (signature-fits (h .direction))) ∙ direction-is (h .direction);
+      i-is = refl;
+      o-is = refl;
+      b-is = read32 (h .offsetB) fb;
+      matrix-is = read32 (h .offsetMatrix) fx;
+      m-is = read32 (h .offsetM) fm;
+      clut-is = read32 (h .offsetClut) fc;
+      a-is = read32 (h .offsetA) fa;
     }
 
--- ---- `mft1` and `mft2`, on either walk
+-- which side has how many curves
+module _ (t : List ℕ) (i o : ℕ) (ei : inputs t ≡ i) (eo : outputs t ≡ o) where
+  device : (d : Direction) → toPcs t ≡ towardsPcs d → deviceChannels t ≡ elim d [ aToB ↦ i | bToA ↦ o ]
+  unfolding deviceChannels
+  device aToB e = ap (λ (x : Bool). cond x (inputs t) (outputs t)) e ∙ ei
+  device bToA e = ap (λ (x : Bool). cond x (inputs t) (outputs t)) e ∙ eo
 
--- in a profile: a tag that lies in it and is laid out so is accepted with its fields, whatever the slots
-pub mft-conforms : (walk : Walk) (limit points : ℕ) (p : List ℕ) (entry size words : ℕ) → entry + countedSize size ≤ length p → MftLaidOut (tagOf p entry size) → MftAsked points (tagOf p entry size) → lutOf walk limit points p entry size words ≡ fromMft (answerOf (tagOf p entry size) (Mft·State.value (fieldsOf (tagOf p entry size))))
-unfolding lutOf byType
-mft-conforms walk limit points p entry size words l h k =
-    let t : List ℕ = tagOf p entry size in
-    let long : 48 ≤ countedSize size = omega (arith, start-least t, start-before t, h .whole, length-take (countedSize size) (drop entry p)) in
-    rw (le-ltb (length p) (entry + countedSize size) l, le-ltb (countedSize size) 48 long, type-known t (h .type-is), mft-accepted points t h k)
+  space : (d : Direction) → toPcs t ≡ towardsPcs d → spaceChannels t ≡ elim d [ aToB ↦ o | bToA ↦ i ]
+  unfolding spaceChannels
+  space aToB e = ap (λ (x : Bool). cond x (outputs t) (inputs t)) e ∙ eo
+  space bToA e = ap (λ (x : Bool). cond x (outputs t) (inputs t)) e ∙ ei
 
--- what is accepted is laid out so, and keeps within what is asked
-pub mft-laid : (walk : Walk) (limit points : ℕ) (p : List ℕ) (entry size words : ℕ) (f : Fields) → lutOf walk limit points p entry size words .state ≡ mft f → MftAccepted points (tagOf p entry size) f
-mft-laid walk limit points p entry size words f h = accepted-mft points (tagOf p entry size) f (mft-found walk limit points p entry size words f h .read-as)
+-- ---- written, then read
+
+module _ {t : List ℕ} where
+  -- a set's curves stand from its offset on, as many as the reader counts
+  set-stands : {offset channels : ℕ} {cs : List PlacedCurve} → CurveSet t offset channels cs → CurvesFrom t offset cs
+  unfolding CurvesFrom
+  set-stands {offset} (no-curves e n) = subst (CurvesFrom t offset) (sym n) tt
+  set-stands (some-curves n k s) = s
+
+  set-count : {offset channels : ℕ} {cs : List PlacedCurve} → CurveSet t offset channels cs → present offset channels ≡ length cs
+  unfolding present
+  set-count {offset} (no-curves e n) = rw (eq-eqb offset 0 e, n)
+  set-count {offset} (some-curves n k s) = rw (ne-eqb offset 0 n) (sym k)
+
+  -- the matrix
+  matrix-there : (offset : ℕ) (m : Matrix) (b : Bias) → Stands t offset (matrixElement m b) → Each32 (nine m) → Each32 (b .e10 ∷ b .e11 ∷ b .e12 ∷ []) → (offset + 48 ≤ length t) × (wordsAt t offset 9 ≡ nine m) × (wordsAt t (offset + 36) 3 ≡ b .e10 ∷ b .e11 ∷ b .e12 ∷ [])
+  unfolding matrixElement each32
+  matrix-there offset m b s f g =
+      let rest : List ℕ = be32 (b .e10) ++ be32 (b .e11) ++ be32 (b .e12) ++ s .behind in
+      let e : drop offset t ≡ each32 (nine m) ++ rest = s .is in
+      let long : offset + 48 ≤ length t = omega (arith, ap length e, length-drop offset t) in
+      let first : wordsAt t offset 9 ≡ wordsAt (drop offset t) 0 9 = ap (λ (i : ℕ). wordsAt t i 9) (sym (add-zero offset)) ∙ sym (words-drop t offset 0 9) in
+      let second : wordsAt t (offset + 36) 3 ≡ wordsAt (drop offset t) 36 3 = sym (words-drop t offset 36 3) in
+      (long, first ∙ ap (λ (l : List ℕ). wordsAt l 0 9) e ∙ words-written (nine m) rest f, second ∙ ap (λ (l : List ℕ). wordsAt l 36 3) e ∙ sym (words-drop (each32 (nine m) ++ rest) 36 0 3) ∙ words-written (b .e10 ∷ b .e11 ∷ b .e12 ∷ []) (s .behind) g)
+
+  module _ {offset : ℕ} (e : matrixOffset t ≡ offset) where
+    matrix-good : (x : MatrixAt t offset) → MatrixTaken x → matrixJudged t ≡ good
+    unfolding matrixJudged MatrixTaken
+    matrix-good (no-matrix z) f = rw (e, eq-eqb offset 0 z)
+    matrix-good (the-matrix n m b s) (f, g) = rw (e, ne-eqb offset 0 n, le-ltb (length t) (offset + 48) (matrix-there offset m b s f g .0))
+
+    matrix-told : (x : MatrixAt t offset) → MatrixTaken x → matrixOf t ≡ matrixTold x
+    unfolding matrixOf matrixTold MatrixTaken
+    matrix-told (no-matrix z) f = rw (e, eq-eqb offset 0 z)
+    matrix-told (the-matrix n m b s) (f, g) = rw (e, ne-eqb offset 0 n) (matrix-there offset m b s f g .1)
+
+    bias-told : (x : MatrixAt t offset) → MatrixTaken x → biasOf t ≡ biasTold x
+    unfolding biasOf biasTold MatrixTaken
+    bias-told (no-matrix z) f = rw (e, eq-eqb offset 0 z)
+    bias-told (the-matrix n m b s) (f, g) = rw (e, ne-eqb offset 0 n) (matrix-there offset m b s f g .2)
+
+  -- the CLUT
+  module _ {offset i o : ℕ} (e : clutOffset t ≡ offset) (ei : inputs t ≡ i) (eo : outputs t ≡ o) where
+    abbrev tableFor : ClutAt t offset i o → Table
+    tableFor (no-clut z) = noTable
+    tableFor (the-clut n c s y) = tableTold offset o c
+
+    table-good : (x : ClutAt t offset i o) → ClutFits x → tableOf t ≡ is (tableFor x)
+    unfolding tableOf ClutFits
+    table-good (no-clut z) f = rw (e, eq-eqb offset 0 z)
+    table-good (the-clut n c s y) f = rw (e, ei, eo, ne-eqb offset 0 n) (clut-written t offset i o c s y f)
+
+    start-told : (x : ClutAt t offset i o) → tableFor x .start ≡ startTold x
+    unfolding startTold
+    start-told (no-clut z) = refl
+    start-told (the-clut n c s y) = refl
+
+    size-told : (x : ClutAt t offset i o) → tableFor x .size ≡ sizeTold x
+    unfolding sizeTold
+    size-told (no-clut z) = refl
+    size-told (the-clut n c s y) = refl
+
+    bytes-told : (x : ClutAt t offset i o) → lengthOf (tableFor x) ≡ bytesTold x
+    unfolding bytesTold
+    bytes-told (no-clut z) = omega arith
+    bytes-told (the-clut n c s y) = told-length t offset i o c s y
+
+    grid-told : (x : ClutAt t offset i o) → gridOf t ≡ gridTold x
+    unfolding gridOf gridTold clutElement
+    grid-told (no-clut z) = rw (e, eq-eqb offset 0 z)
+    grid-told (the-clut n c s y) =
+        let g : List ℕ = c .grid ++ c .unused in
+        let k : length g ≡ 16 = length-append (c .grid) (c .unused) ∙ y .sixteen in
+        let rest : List ℕ = precision (c .entries) ∷ c .pad1 ∷ c .pad2 ∷ c .pad3 ∷ (entryBytes (c .entries) ++ s .behind) in
+        let q : drop offset t ≡ g ++ rest = s .is ∙ simp append-assoc in
+        let w : bytesAt (g ++ rest) 0 16 ≡ g = ap (bytesAt (g ++ rest) 0) (sym k) ∙ bytes-written g rest in
+        rw (e, ne-eqb offset 0 n) (ap (λ (i : ℕ). bytesAt t i 16) (sym (add-zero offset)) ∙ sym (bytes-drop t offset 0 16) ∙ ap (λ (l : List ℕ). bytesAt l 0 16) q ∙ w)
+
+few-is : (i o : ℕ) → (i ≤ 4) ⊎ (o ≤ 4) → ltb 4 i && ltb 4 o ≡ false
+few-is i o (inl l) = rw (le-ltb 4 i l)
+few-is i o (inr l) = rw (le-ltb 4 o l) (and-false (ltb 4 i))
+
+-- a set has as many curves as the answer tells
+there-is : (offset channels : ℕ) → present offset channels ≡ curvesThere offset channels
+unfolding present
+there-is zero channels = refl
+there-is (suc offset) channels = rw (ne-eqb (suc offset) 0 (λ z. omega arith))
+
+module _ (t : List ℕ) (l : LutParts t) (f : PartsTaken l) where
+  abbrev h : Head
+  h = l .head
+
+  seen : Seen t h
+  seen = subst (λ s. Seen s h) (sym (l .begins .is)) (head-seen h (l .begins .behind) (f .b-offset) (f .matrix-offset) (f .m-offset) (f .clut-offset) (f .a-offset))
+
+  a-counted : aCurves t ≡ present (h .offsetA) (curvesA h)
+  unfolding aCurves
+  a-counted = rw (seen .a-is, device t (h .inputChannels) (h .outputChannels) (seen .i-is) (seen .o-is) (h .direction) (seen .to-pcs))
+
+  m-counted : mCurves t ≡ present (h .offsetM) (curvesMB h)
+  unfolding mCurves
+  m-counted = rw (seen .m-is, space t (h .inputChannels) (h .outputChannels) (seen .i-is) (seen .o-is) (h .direction) (seen .to-pcs))
+
+  b-counted : bCurves t ≡ present (h .offsetB) (curvesMB h)
+  unfolding bCurves
+  b-counted = rw (seen .b-is, space t (h .inputChannels) (h .outputChannels) (seen .i-is) (seen .o-is) (h .direction) (seen .to-pcs))
+
+  abbrev table : Table
+  table = tableFor (seen .clut-is) (seen .i-is) (seen .o-is) (l .clut)
+
+  table-read : tableOf t ≡ is table
+  table-read = table-good (seen .clut-is) (seen .i-is) (seen .o-is) (l .clut) (f .clut-fits)
+
+  -- the answer tells what was written
+  value-told : valueFrom t (table .start) (lengthOf table) (table .size) ≡ told l
+  unfolding valueFrom
+  value-told =
+      rw (start-told (seen .clut-is) (seen .i-is) (seen .o-is) (l .clut), bytes-told (seen .clut-is) (seen .i-is) (seen .o-is) (l .clut), size-told (seen .clut-is) (seen .i-is) (seen .o-is) (l .clut), grid-told (seen .clut-is) (seen .i-is) (seen .o-is) (l .clut), matrix-told (seen .matrix-is) (l .matrix) (f .matrix-fits), bias-told (seen .matrix-is) (l .matrix) (f .matrix-fits), a-counted, m-counted, b-counted, there-is (h .offsetA) (curvesA h), there-is (h .offsetM) (curvesMB h), there-is (h .offsetB) (curvesMB h), seen .to-pcs, seen .i-is, seen .o-is)
+
+  module _ (walk : Walk) (limit : ℕ) (c : LutCurves t h) (k : CurvesTaken walk limit c) where
+    a-count : aCurves t ≡ length (c .a)
+    a-count = a-counted ∙ set-count (c .a-set)
+
+    m-count : mCurves t ≡ length (c .m)
+    m-count = m-counted ∙ set-count (c .m-set)
+
+    b-count : bCurves t ≡ length (c .b)
+    b-count = b-counted ∙ set-count (c .b-set)
+
+    run-a : runA walk limit t (planOf t) ≡ record { curves = map seenOf (c .a); end = whole }
+    unfolding planOf
+    run-a = rw (seen .a-is, a-count) (written-run walk limit t (h .offsetA) (c .a) (set-stands (c .a-set)) (k .a-fit) (k .a-passes))
+
+    run-m : runM walk limit t (planOf t) ≡ record { curves = map seenOf (c .m); end = whole }
+    unfolding planOf
+    run-m = rw (seen .m-is, m-count) (written-run walk limit t (h .offsetM) (c .m) (set-stands (c .m-set)) (k .m-fit) (k .m-passes))
+
+    run-b : runB walk limit t (planOf t) ≡ record { curves = map seenOf (c .b); end = whole }
+    unfolding planOf
+    run-b = rw (seen .b-is, b-count) (written-run walk limit t (h .offsetB) (c .b) (set-stands (c .b-set)) (k .b-fit) (k .b-passes))
+
+    -- the records of the tag are those of the curves that were written
+    pub written-records : recordsOf (curvesOf walk limit t (planOf t)) ≡ recordsWritten c
+    unfolding curvesOf
+    written-records =
+        rw (run-a, run-m, run-b) (records-append (map seenOf (c .a) ++ map seenOf (c .m)) (map seenOf (c .b)) ∙ rw (records-append (map seenOf (c .a)) (map seenOf (c .m)), records-are (c .a), records-are (c .m), records-are (c .b)))
+
+    -- and the answer is as told, if the slots suffice
+    pub written-read : (words : ℕ) → (length (c .a) + length (c .m) + length (c .b)) * 10 ≤ words → abmOf walk limit t words ≡ told l
+    unfolding abmOf judgedOf recordedOf runsJudged ended recordsNeeded
+    written-read words room =
+        let few : ltb 4 (inputs t) && ltb 4 (outputs t) ≡ false = rw (seen .i-is, seen .o-is) (few-is (h .inputChannels) (h .outputChannels) (f .few-channels)) in
+        let enough : recordsNeeded t ≤ words / 10 = omega (arith, a-count, m-count, b-count) in
+        rw (few, matrix-good (seen .matrix-is) (l .matrix) (f .matrix-fits), table-read, run-a, run-m, run-b, le-ltb (words / recordWords) (recordsNeeded t) enough) value-told
+
+-- ---- read, then written
+
+few-back : (i o : ℕ) → ltb 4 i && ltb 4 o ≡ false → (i ≤ 4) ⊎ (o ≤ 4)
+few-back i o = by (ltb 4 i) refl
+  where
+    by : (x : Bool) → ltb 4 i ≡ x → x && ltb 4 o ≡ false → (i ≤ 4) ⊎ (o ≤ 4)
+    by true e h = inr (ltb-false 4 o h)
+    by false e h = inl (ltb-false 4 i e)
+
+none-left : (cs : List PlacedCurve) → length cs ≡ 0 → cs ≡ []
+none-left [] e = refl
+none-left (c ∷ cs) e = absurd (omega arith)
+
+module _ (t : List ℕ) (b : Bytes t) where
+  set-of : (offset channels : ℕ) (cs : List PlacedCurve) → CurvesFrom t offset cs → length cs ≡ present offset channels → CurveSet t offset channels cs
+  unfolding present
+  set-of offset channels cs s = by (eqb offset 0) refl
+    where
+      by : (x : Bool) → eqb offset 0 ≡ x → length cs ≡ cond x 0 channels → CurveSet t offset channels cs
+      by true e n = no-curves (eqb-true offset 0 e) (none-left cs n)
+      by false e n = some-curves (eqb-false offset 0 e) n s
+
+  -- four bytes on, and twelve numbers from there on
+  abbrev w : ℕ → ℕ
+  w i = u32At t i
+
+  matrix-at : (offset : ℕ) → (offset ≡ 0 → ⊥) → offset + 48 ≤ length t → (x : MatrixAt t offset) × MatrixTaken x
+  unfolding MatrixTaken matrixElement each32 wordsAt
+  matrix-at offset n l =
+      let i2 : ℕ = offset + 4 in
+      let i3 : ℕ = i2 + 4 in
+      let i4 : ℕ = i3 + 4 in
+      let i5 : ℕ = i4 + 4 in
+      let i6 : ℕ = i5 + 4 in
+      let i7 : ℕ = i6 + 4 in
+      let i8 : ℕ = i7 + 4 in
+      let i9 : ℕ = i8 + 4 in
+      let i10 : ℕ = i9 + 4 in
+      let m : Matrix = record { e1 = w offset; e2 = w i2; e3 = w i3; e4 = w i4; e5 = w i5; e6 = w i6; e7 = w i7; e8 = w i8; e9 = w i9 } in
+      let q : Bias = record { e10 = w i10; e11 = w (i10 + 4); e12 = w (i10 + 4 + 4) } in
+      (the-matrix n m q record { behind = drop (offset + 48) t; is = row32 t b 12 offset l refl refl }, (words-below t b offset 9, words-below t b i10 3))
+
+  matrix-of : (offset : ℕ) → (offset ≡ 0) ⊎ (offset + 48 ≤ length t) → (x : MatrixAt t offset) × MatrixTaken x
+  unfolding MatrixTaken
+  matrix-of offset h = by (eqb offset 0) refl
+    where
+      by : (x : Bool) → eqb offset 0 ≡ x → (x : MatrixAt t offset) × MatrixTaken x
+      by true e = (no-matrix (eqb-true offset 0 e), tt)
+      by false e = elim h [
+        | inl z ↦ absurd (eqb-false offset 0 e z)
+        | inr l ↦ matrix-at offset (eqb-false offset 0 e) l
+      ]
+
+  clut-of : (i o : ℕ) → inputs t ≡ i → outputs t ≡ o → i ≤ 16 → (table : Table) → tableOf t ≡ is table → (x : ClutAt t (clutOffset t) i o) × ClutFits x
+  unfolding tableOf ClutFits
+  clut-of i o ei eo few table = by (eqb (clutOffset t) 0) refl
+    where
+      by : (x : Bool) → eqb (clutOffset t) 0 ≡ x → cond x (is noTable) (clutOf t (clutOffset t) (inputs t) (outputs t)) ≡ is table → (x : ClutAt t (clutOffset t) i o) × ClutFits x
+      by true e h = (no-clut (eqb-true (clutOffset t) 0 e), tt)
+      by false e h =
+          let s = clut-read t b (clutOffset t) i o few table (rw (ei, eo) at h) in
+          (the-clut (eqb-false (clutOffset t) 0 e) (s .clut) (s .stands) (s .sized), s .taken)
+
+  module _ (walk : Walk) (limit words : ℕ) (d : Direction) (e : u32At t 0 ≡ signature d) (long : 32 ≤ length t) (few : inputs t ≤ 16) (v : Accepted walk limit t words (abmOf walk limit t words)) where
+    abbrev head : Head
+    head =
+        record {
+          direction = d;
+          reserved = u32At t 4;
+          inputChannels = inputs t;
+          outputChannels = outputs t;
+          reserved2 = u16At t 10;
+          offsetB = bOffset t;
+          offsetMatrix = matrixOffset t;
+          offsetM = mOffset t;
+          offsetClut = clutOffset t;
+          offsetA = aOffset t;
+        }
+
+    begins : Stands t 0 (headElement head)
+    unfolding headElement
+    begins =
+        record {
+          behind = drop 32 t;
+          is = then32 t b 0 (omega arith) e (then32 t b 4 (omega arith) refl (then8 t 8 (omega arith) refl (then8 t 9 (omega arith) refl (then16 t b 10 (omega arith) refl (then32 t b 12 (omega arith) refl (then32 t b 16 (omega arith) refl (then32 t b 20 (omega arith) refl (then32 t b 24 (omega arith) refl (then32 t b 28 long refl refl)))))))));
+        }
+
+    parts : LutParts t
+    parts =
+        record {
+          head = head;
+          begins = begins;
+          matrix = matrix-of (matrixOffset t) (matrix-inside t (v .matrix-good)) .0;
+          clut = clut-of (inputs t) (outputs t) refl refl few (v .table) (v .table-is) .0;
+        }
+
+    taken : PartsTaken parts
+    unfolding parts
+    taken =
+        record {
+          few-channels = few-back (inputs t) (outputs t) (v .few-channels);
+          b-offset = below32 t b 12;
+          matrix-offset = below32 t b 16;
+          m-offset = below32 t b 20;
+          clut-offset = below32 t b 24;
+          a-offset = below32 t b 28;
+          matrix-fits = matrix-of (matrixOffset t) (matrix-inside t (v .matrix-good)) .1;
+          clut-fits = clut-of (inputs t) (outputs t) refl refl few (v .table) (v .table-is) .1;
+        }
+
+    -- the table that was read is the one that is told
+    same-table : v .table ≡ table t parts taken
+    same-table = let q : is (v .table) ≡ is (table t parts taken) = sym (v .table-is) ∙ table-read t parts taken in cc
+
+    frame : PartsAs t (abmOf walk limit t words)
+    frame =
+        record { parts = parts; taken = taken; answer-is = v .answer-is ∙ ap (λ (x : Table). valueFrom t (x .start) (lengthOf x) (x .size)) same-table ∙ value-told t parts taken }
+
+    -- a run that is whole, and whose curves the walk steps over, is a set of curves
+    module _ (a-passes : Passes walk (runA walk limit t (planOf t) .curves)) (m-passes : Passes walk (runM walk limit t (planOf t) .curves)) (b-passes : Passes walk (runB walk limit t (planOf t) .curves)) where
+      counted : (at n : ℕ) → runAt walk limit t at n .end ≡ whole → (r : Standing limit t at (runAt walk limit t at n .curves)) → length (r .curves) ≡ n
+      counted at n q r = sym (map-length (r .curves)) ∙ ap length (sym (r .seen)) ∙ run-count walk limit t at n q
+
+      set-from : (at n channels : ℕ) → runAt walk limit t at n .end ≡ whole → (r : Standing limit t at (runAt walk limit t at n .curves)) → n ≡ present at channels → CurveSet t at channels (r .curves)
+      set-from at n channels q r c = set-of at channels (r .curves) (r .stand) (counted at n q r ∙ c)
+
+      ra : Standing limit t (aOffset t) (runAt walk limit t (aOffset t) (aCurves t) .curves)
+      unfolding planOf
+      ra = run-written walk limit t b (aOffset t) (aCurves t) a-passes
+
+      rm : Standing limit t (mOffset t) (runAt walk limit t (mOffset t) (mCurves t) .curves)
+      unfolding planOf
+      rm = run-written walk limit t b (mOffset t) (mCurves t) m-passes
+
+      rb : Standing limit t (bOffset t) (runAt walk limit t (bOffset t) (bCurves t) .curves)
+      unfolding planOf
+      rb = run-written walk limit t b (bOffset t) (bCurves t) b-passes
+
+      curves : LutCurves t head
+      unfolding planOf parts
+      curves =
+          record {
+            a = ra .curves;
+            m = rm .curves;
+            b = rb .curves;
+            a-set = set-from (aOffset t) (aCurves t) (curvesA head) (a-whole walk limit t (planOf t) (v .runs-good)) ra (a-counted t parts taken);
+            m-set = set-from (mOffset t) (mCurves t) (curvesMB head) (m-whole walk limit t (planOf t) (v .runs-good)) rm (m-counted t parts taken);
+            b-set = set-from (bOffset t) (bCurves t) (curvesMB head) (b-whole walk limit t (planOf t) (v .runs-good)) rb (b-counted t parts taken);
+          }
+
+      curves-taken : CurvesTaken walk limit curves
+      unfolding planOf curves
+      curves-taken =
+          record {
+            a-fit = ra .fit;
+            m-fit = rm .fit;
+            b-fit = rb .fit;
+            a-passes = subst (Passes walk) (ra .seen) a-passes;
+            m-passes = subst (Passes walk) (rm .seen) m-passes;
+            b-passes = subst (Passes walk) (rb .seen) b-passes;
+          }
+
+      back : (slots left : List ℕ) → let records : List ℕ = recordsOf (curvesOf walk limit t (planOf t)) in left ≡ records ++ drop (length records) slots → TagAs walk limit t (abmOf walk limit t words) slots left
+      unfolding frame parts
+      back slots left e =
+          record { frame = frame; curves = curves; taken = curves-taken; left-is = e ∙ ap (λ (x : List ℕ). x ++ drop (length x) slots) (written-records t parts taken walk limit curves curves-taken) }
+
+-- ---- a tag of a profile
+
+module _ (limit points : ℕ) (p : List ℕ) (entry size words : ℕ) (inside : entry + size ≤ length p) (long : 48 ≤ size) where
+  abbrev tagBytes : List ℕ
+  tagBytes = take size (drop entry p)
+
+  module _ (walk : Walk) where
+    type-read : (d : Direction) → u32At tagBytes 0 ≡ signature d → lutOf walk limit points p entry size words ≡ abmOf walk limit tagBytes words
+    unfolding lutOf byType isMft isWide signatureOf
+    type-read d e =
+        let some : size ≡ 0 → ⊥ = λ z. omega arith in
+        rw (ne-eqb size 0 some, le-ltb (length p) (entry + size) inside, le-ltb size 48 long, e) (by d)
+      where
+        by : (d : Direction) → cond (eqb (signature d) 0x6d667431 || eqb (signature d) 0x6d667432) (fromMft (answerOf tagBytes (mftOf points tagBytes))) (cond (eqb (signature d) 0x6d414220 || eqb (signature d) 0x6d424120) (abmOf walk limit tagBytes words) (refuse 3)) ≡ abmOf walk limit tagBytes words
+        by aToB = refl
+        by bToA = refl
+
+    module _ (l : LutParts tagBytes) (f : PartsTaken l) (c : LutCurves tagBytes (l .head)) (k : CurvesTaken walk limit c) (room : (length (c .a) + length (c .m) + length (c .b)) * 10 ≤ words) where
+      -- what the standard writes, anywhere in a profile, is answered with what was written
+      pub profile-read : lutOf walk limit points p entry size words ≡ told l
+      unfolding headElement
+      profile-read =
+          let e : u32At tagBytes 0 ≡ signature (l .head .direction) = ap (λ (s : List ℕ). u32At s 0) (l .begins .is) ∙ read32 (signature (l .head .direction)) (signature-fits (l .head .direction)) in
+          type-read (l .head .direction) e ∙ written-read tagBytes l f walk limit c k words room
+
+      -- and leaves the records of the curves that were written in front of the lent slots
+      pub profile-left : (slots : List ℕ) → length slots ≡ words → leftOf walk limit points p entry size slots ≡ recordsWritten c ++ drop (length (recordsWritten c)) slots
+      profile-left slots n =
+          let some : size ≡ 0 → ⊥ = λ z. omega arith in
+          rw (n, ne-eqb size 0 some, profile-read, written-records tagBytes l f walk limit c k)
+
+  -- the same of lut16Type and lut8Type, on either walk
+  mft-read : (walk : Walk) → isMft tagBytes ≡ true → lutOf walk limit points p entry size words ≡ fromMft (answerOf tagBytes (mftOf points tagBytes))
+  unfolding lutOf byType
+  mft-read walk e =
+      let some : size ≡ 0 → ⊥ = λ z. omega arith in
+      rw (ne-eqb size 0 some, le-ltb (length p) (entry + size) inside, le-ltb size 48 long, e)
+
+  pub profile-read16 : (walk : Walk) (reserved reserved2 n m : ℕ) (l : Lut) (rest : List ℕ) → MftTaken points l → Entries16 n → Entries16 m → Sized n m l → tagBytes ≡ lut16Type reserved reserved2 n m l ++ rest → lutOf walk limit points p entry size words ≡ record { state = mft (told16 n m l); grid = replicate 16 0; matrix = nine (l .matrix); bias = replicate 3 0 }
+  unfolding isMft isWide signatureOf lut16Type
+  profile-read16 walk reserved reserved2 n m l rest k en em z e =
+      mft-read walk (ap isMft e) ∙ ap (λ (t : List ℕ). fromMft (answerOf t (mftOf points t))) e ∙ ap fromMft (written-read16 points reserved reserved2 l rest k n m en em z)
+
+  pub profile-read8 : (walk : Walk) (reserved reserved2 : ℕ) (l : Lut) (rest : List ℕ) → MftTaken points l → Sized 256 256 l → tagBytes ≡ lut8Type reserved reserved2 l ++ rest → lutOf walk limit points p entry size words ≡ record { state = mft (told8 l); grid = replicate 16 0; matrix = nine (l .matrix); bias = replicate 3 0 }
+  unfolding isMft isWide signatureOf lut8Type
+  profile-read8 walk reserved reserved2 l rest k z e =
+      mft-read walk (ap isMft e) ∙ ap (λ (t : List ℕ). fromMft (answerOf t (mftOf points t))) e ∙ ap fromMft (written-read8 points reserved reserved2 l rest k z)
+
+-- ---- what is answered of a profile is what the standard writes
+
+counted-is : (size : ℕ) → 48 ≤ countedSize size → countedSize size ≡ size
+counted-is size = by (eqb size 0)
+  where
+    by : (x : Bool) → 48 ≤ cond x 12 size → cond x 12 size ≡ size
+    by true l = absurd (omega arith)
+    by false l = refl
+
+-- a step over each curve by the records is one by the curves
+module _ (walk : Walk) (limit : ℕ) (t : List ℕ) (g : runsJudged walk limit t (planOf t) ≡ good) where
+  abbrev ca : List Placed
+  ca = runA walk limit t (planOf t) .curves
+
+  abbrev cm : List Placed
+  cm = runM walk limit t (planOf t) .curves
+
+  abbrev cb : List Placed
+  cb = runB walk limit t (planOf t) .curves
+
+  a-long : length ca ≡ aCurves t
+  unfolding planOf
+  a-long = run-count walk limit t (aOffset t) (aCurves t) (a-whole walk limit t (planOf t) g)
+
+  m-long : length cm ≡ mCurves t
+  unfolding planOf
+  m-long = run-count walk limit t (mOffset t) (mCurves t) (m-whole walk limit t (planOf t) g)
+
+  b-long : length cb ≡ bCurves t
+  unfolding planOf
+  b-long = run-count walk limit t (bOffset t) (bCurves t) (b-whole walk limit t (planOf t) g)
+
+-- a number of an answer
+abbrev numberIn : (Abm → ℕ) → Abm·State → ℕ
+numberIn g (abm f) = g f
+numberIn g (mft f) = 0
+numberIn g absent = 0
+numberIn g (refused n) = 0
+
+three-passes : (walk : Walk) (a m b : List Placed) (rest : List ℕ) → PassesBy walk (recordsOf (a ++ m ++ b) ++ rest) (length a) (length m) (length b) → Passes walk a × Passes walk m × Passes walk b
+unfolding PassesBy Passes
+three-passes Book a m b rest h = (tt, tt, tt)
+three-passes Crate a m b rest (ha, hm, hb) =
+    let ra : List ℕ = recordsOf a in
+    let rm : List ℕ = recordsOf m in
+    let rb : List ℕ = recordsOf b in
+    let all : recordsOf (a ++ m ++ b) ++ rest ≡ ra ++ rm ++ rb ++ rest = ap (λ (x : List ℕ). x ++ rest) (records-append (a ++ m) b ∙ ap (λ (x : List ℕ). x ++ rb) (records-append a m)) in
+    let first : recordsOf (a ++ m ++ b) ++ rest ≡ [] ++ (ra ++ (rm ++ (rb ++ rest))) = all ∙ simp append-assoc in
+    let second : recordsOf (a ++ m ++ b) ++ rest ≡ ra ++ (rm ++ (rb ++ rest)) = all ∙ simp append-assoc in
+    let third : recordsOf (a ++ m ++ b) ++ rest ≡ (ra ++ rm) ++ (rb ++ rest) = all ∙ simp append-assoc in
+    let la : length ra ≡ length a * 10 = records-length a in
+    let lm : length (ra ++ rm) ≡ (length a + length m) * 10 = length-append ra rm ∙ omega (arith, la, records-length m) in
+    (passes-by [] 0 refl a (rm ++ (rb ++ rest)) (subst (λ (x : List ℕ). NoneEmpty x 0 (length a)) first ha), passes-by ra (length a) la m (rb ++ rest) (subst (λ (x : List ℕ). NoneEmpty x (length a) (length m)) second hm), passes-by (ra ++ rm) (length a + length m) lm b rest (subst (λ (x : List ℕ). NoneEmpty x (length a + length m) (length b)) third hb))
+
+module _ (limit points : ℕ) (p : List ℕ) (b : Bytes p) (entry size : ℕ) where
+  abbrev tagIn : List ℕ
+  tagIn = take size (drop entry p)
+
+  module _ (walk : Walk) (words : ℕ) (f : Abm) (h : lutOf walk limit points p entry size words .state ≡ abm f) (few : getD tagIn 8 0 ≤ 16) where
+    -- the head, the matrix and the CLUT, on either walk
+    pub profile-parts : (entry + size ≤ length p) × PartsAs tagIn (lutOf walk limit points p entry size words)
+    unfolding signatureOf
+    profile-parts =
+        let w = abm-found walk limit points p entry size words f h in
+        let k = counted-is size (w .long) in
+        let t : List ℕ = take (countedSize size) (drop entry p) in
+        let c : Bytes t = part-bytes p b entry (countedSize size) in
+        let long : 32 ≤ length t = omega (arith, w .long, w .tag-in-profile, length-take (countedSize size) (drop entry p), length-drop entry p) in
+        let least : getD t 8 0 ≤ 16 = rw k few in
+        let r : PartsAs t (abmOf walk limit t words) = elim (w .type-is) [
+          | inl e ↦ frame t c walk limit words aToB e long least (w .behind)
+          | inr e ↦ frame t c walk limit words bToA e long least (w .behind)
+        ] in
+        (rw k at (w .tag-in-profile), rw k at (rw (← w .as-abm) at r))
+
+    -- and the curves, where the walk steps over each but the last of its set
+    pub profile-written : (slots left : List ℕ) → length slots ≡ words → leftOf walk limit points p entry size slots ≡ left → PassesBy walk left (f .a) (f .m) (f .b) → (entry + size ≤ length p) × TagAs walk limit tagIn (lutOf walk limit points p entry size words) slots left
+    unfolding signatureOf valueFrom curvesOf
+    profile-written slots left n q pass =
+        let w = abm-found walk limit points p entry size words f h in
+        let k = counted-is size (w .long) in
+        let t : List ℕ = take (countedSize size) (drop entry p) in
+        let c : Bytes t = part-bytes p b entry (countedSize size) in
+        let long : 32 ≤ length t = omega (arith, w .long, w .tag-in-profile, length-take (countedSize size) (drop entry p), length-drop entry p) in
+        let least : getD t 8 0 ≤ 16 = rw k few in
+        let g = w .behind .runs-good in
+        let records : List ℕ = recordsOf (curvesOf walk limit t (planOf t)) in
+        let rest : List ℕ = drop (length records) slots in
+        let e : left ≡ records ++ rest = sym q ∙ rw (n, h) in
+        let same : abm f ≡ valueFrom t (w .behind .table .start) (lengthOf (w .behind .table)) (w .behind .table .size) .state = sym h ∙ ap (λ (a : Answer). a .state) (w .as-abm ∙ w .behind .answer-is) in
+        let fa : f .a ≡ aCurves t = ap (numberIn (λ x. x .a)) same in
+        let fm : f .m ≡ mCurves t = ap (numberIn (λ x. x .m)) same in
+        let fb : f .b ≡ bCurves t = ap (numberIn (λ x. x .b)) same in
+        let passed = three-passes walk (ca walk limit t g) (cm walk limit t g) (cb walk limit t g) rest (rw (a-long walk limit t g, m-long walk limit t g, b-long walk limit t g, ← fa, ← fm, ← fb, ← e) pass) in
+        let r : TagAs walk limit t (abmOf walk limit t words) slots left = elim (w .type-is) [
+          | inl y ↦ back t c walk limit words aToB y long least (w .behind) (passed .0) (passed .1) (passed .2) slots left e
+          | inr y ↦ back t c walk limit words bToA y long least (w .behind) (passed .0) (passed .1) (passed .2) slots left e
+        ] in
+        (rw k at (w .tag-in-profile), rw k at (rw (← w .as-abm) at r))
+
+  pub profile-written-mft : (walk : Walk) (words : ℕ) (f : Fields) → lutOf walk limit points p entry size words .state ≡ mft f → let a : Answer = lutOf walk limit points p entry size words in (entry + size ≤ length p) × (Begins8 points tagIn f (a .matrix) ⊎ Begins16 points tagIn f (a .matrix))
+  unfolding answerOf
+  profile-written-mft walk words f h =
+      let w = mft-found walk limit points p entry size words f h in
+      let v = in-profile walk limit points p entry size words (mft-value h) in
+      let k = counted-is size (v .1) in
+      let t : List ℕ = take (countedSize size) (drop entry p) in
+      let x : lutOf walk limit points p entry size words .matrix ≡ mftMatrix t = ap (λ (a : Answer). a .matrix) (w .as-mft) ∙ ap (λ (s : State). answerOf t s .matrix) (w .read-as) in
+      let r = mft-written points t (part-bytes p b entry (countedSize size)) f (w .read-as) in
+      (rw k at (v .0), rw k at (rw (← x) at r))

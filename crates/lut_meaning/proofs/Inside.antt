@@ -16,7 +16,7 @@ use Rattle.fields.specs.Bytes.{bytesAt}
 use Rattle.fields.proofs.Words.{bytes-part}
 use Rattle.clut_meaning.specs.Clut.{is, clutOf}
 use Rattle.clut_meaning.specs.Table.{Table, lengthOf, inGrid, numberOf}
-use Rattle.clut_meaning.proofs.Conforms.{accepted as laid-out}
+use Rattle.clut_meaning.proofs.Accepted.{accepted as laid-out}
 use Rattle.clut_meaning.proofs.Grid.{entry-below}
 use Rattle.clut_meaning.proofs.Inside.{inside}
 use Rattle.curve_meaning.specs.Shape.{recordWords}

@@ -6,4 +6,3 @@ pub mod Inside
 pub mod More
 pub mod Conforms
 pub mod Cases
-pub mod Written

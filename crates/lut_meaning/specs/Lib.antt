@@ -6,4 +6,3 @@ pub mod Abm
 pub mod Lut
 pub mod Standard
 pub mod Cases
-pub mod Written

@@ -1,141 +1,265 @@
--- Conformance to lut8Type and lut16Type, both ways: a tag that is laid out as the standard says, and keeps within what this library asks
--- besides, is accepted with its fields; and what is accepted is laid out so.
+-- Conformance to lut16Type and lut8Type as `icc` writes them, both ways.
 -- Assumes nothing.
-use Prim.Native.Nat.{ℕ, _≤_}
+use Prim.Native.Nat.{ℕ, _+_, _*_, _^_, _≤_}
 use native.Mathlib.Omega.{arith}
-use mathlib.Core.Path.{_≡_, refl, subst}
-use mathlib.Core.Bool.{Bool, true, false, cond, not, _||_, or-true, true≢false}
-use mathlib.Core.List.{List}
+use mathlib.Core.Path.{_≡_, refl, sym, ap, _∙_}
+use mathlib.Core.Bool.{true, false}
+use mathlib.Core.List.{List, [], _∷_, _++_, append-assoc}
+use lib.Dec.{eqb}
 use mathlib.Core.Logic.{_⊎_, inl, inr}
-use lib.Dec.{ltb, eqb}
-use lib.ListN.{length}
-use borrow.Author.Tests.{eq-eqb, le-ltb, ltb-false, eqb-true}
-use Rattle.clut_meaning.specs.Table.{pointsOf}
-use Rattle.fields.specs.Bytes.{u32At}
+use lib.ListN.{length, getD, take, drop, replicate, length-append, length-drop}
+use lib.Seq.{length-take-le}
+use borrow.Author.Tests.{eq-eqb}
+use Rattle.icc.specs.Numbers.{be16, be32, each16, each32, Is32, Each32, Bytes}
+use Rattle.icc.specs.Tables.{Matrix, Lut, nine, Sized, Entries16, lut16Type, lut8Type}
+use Rattle.fields.proofs.Written.{read16, length16, words-drop, words-written, words-below, then8, then16, then32, row8, row16, row32, halvesAt, halves-length}
+use Rattle.fields.specs.Bytes.{u16At, u32At, wordsAt}
 use Rattle.fields.specs.Tag.{signatureOf}
 use Rattle.fields.specs.declared.Kind.the-variants.{Mft1, Mft2}
-use Rattle.fields.proofs.Choice.{each, neither-left, neither-right}
-use Rattle.mft_meaning.specs.Answer.{Fields, State, value, refused, fieldsOf}
-use Rattle.mft_meaning.specs.Layout.{isWide, isMft, inputs, outputs, gridPoints, inputEntries, outputEntries, tablesStart, colourTable, tablesEnd}
-use Rattle.mft_meaning.specs.Mft.{outside, badEntries, badChannels, badNumbers, tablesOf, numbersOf, mftOf}
-use Rattle.mft_meaning.specs.Standard.{LaidOut, Asked}
+use Rattle.clut_meaning.specs.Table.{product, pointsOf, lengthOf}
+use Rattle.clut_meaning.proofs.Grid.{power-is}
+use Rattle.mft_meaning.specs.Answer.{Fields, State, value, Answer, fieldsOf, answerOf}
+use Rattle.mft_meaning.specs.Layout.{isWide, entrySize, tablesStart, entriesAt, inputs, outputs, gridPoints, inputEntries, outputEntries, matrixOf, colourTable, tablesEnd}
+use Rattle.mft_meaning.specs.Mft.{mftOf}
+use Rattle.mft_meaning.specs.Standard.{told, told16, told8, Taken, Begins16, Begins8}
+use Rattle.mft_meaning.proofs.Accepted.{LaidOut, Asked, conforms, accepted}
 
--- ---- what is laid out so is accepted
+-- the numbers of a tag, as the reader has them
+record Seen (t : List ℕ) (size start n m : ℕ) (l : Lut) : Type 0 where
+  type-is : (u32At t 0 ≡ signatureOf Mft1) ⊎ (u32At t 0 ≡ signatureOf Mft2)
+  size-is : entrySize t ≡ size
+  start-is : tablesStart t ≡ start
+  n-is : inputEntries t ≡ n
+  m-is : outputEntries t ≡ m
+  i-is : inputs t ≡ l .inputChannels
+  o-is : outputs t ≡ l .outputChannels
+  g-is : gridPoints t ≡ l .gridPoints
+  matrix-is : matrixOf t ≡ nine (l .matrix)
+  whole : start + size * length (l .inputTables) + size * length (l .clut) + size * length (l .outputTables) ≤ length t
 
-inside-is : (low x high : ℕ) → low ≤ x → x ≤ high → outside low x high ≡ false
-unfolding outside
-inside-is low x high l h = rw (le-ltb x low l, le-ltb high x h)
+module _ (limit : ℕ) (t : List ℕ) (size start n m : ℕ) (l : Lut) (s : Seen t size start n m l) (z : Sized n m l) where
+  input-bytes : inputEntries t * inputs t * entrySize t ≡ size * length (l .inputTables)
+  input-bytes = rw (s .n-is, s .i-is, s .size-is, z .input-tables) (omega arith)
 
-three-is : (i o : ℕ) → (i ≡ 3) ⊎ (o ≡ 3) → not (eqb i 3 || eqb o 3) ≡ false
-three-is i o (inl e) = rw (eq-eqb i 3 e)
-three-is i o (inr e) = rw (eq-eqb o 3 e, or-true)
+  points : product (replicate (inputs t) (gridPoints t)) ≡ l .gridPoints ^ l .inputChannels
+  points = rw (s .i-is, s .g-is) (power-is (l .inputChannels) (l .gridPoints))
 
-good-numbers : (limit : ℕ) (t : List ℕ) → LaidOut t → Asked limit t → badNumbers t ≡ false
-unfolding badNumbers badEntries badChannels
-good-numbers limit t h w =
-    rw (inside-is 2 (inputEntries t) 4096 (h .input-least) (h .input-most), inside-is 2 (outputEntries t) 4096 (h .output-least) (h .output-most), inside-is 1 (inputs t) 4 (w .some-inputs) (w .few-inputs), inside-is 1 (outputs t) 4 (w .some-outputs) (w .few-outputs), three-is (inputs t) (outputs t) (w .three), le-ltb (gridPoints t) 2 (w .wide))
+  clut-bytes : product (replicate (inputs t) (gridPoints t)) * outputs t * entrySize t ≡ size * length (l .clut)
+  clut-bytes = rw (points, s .o-is, s .size-is, z .clut-points) (omega arith)
 
-pub type-known : (t : List ℕ) → (u32At t 0 ≡ signatureOf Mft1) ⊎ (u32At t 0 ≡ signatureOf Mft2) → isMft t ≡ true
-unfolding isMft isWide
-type-known t (inl e) = rw (eq-eqb _ _ e)
-type-known t (inr e) = rw (eq-eqb _ _ e, or-true)
+  output-bytes : outputEntries t * outputs t * entrySize t ≡ size * length (l .outputTables)
+  output-bytes = rw (s .m-is, s .o-is, s .size-is, z .output-tables) (omega arith)
 
--- the tables start behind the matrix
-pub start-least : (t : List ℕ) → 48 ≤ tablesStart t
-unfolding tablesStart
-start-least t = by (isWide t)
-  where
-    by : (b : Bool) → 48 ≤ cond b 52 48
-    by true = omega arith
-    by false = omega arith
+  told-fields : fieldsOf t ≡ told size start n m l
+  unfolding fieldsOf colourTable
+  told-fields =
+      rw (input-bytes, clut-bytes, output-bytes, s .size-is, s .start-is, s .n-is, s .m-is, s .i-is, s .o-is, s .g-is)
 
-pub start-before : (t : List ℕ) → tablesStart t ≤ tablesEnd t
-unfolding colourTable
-start-before t = omega arith
+  answered : Entries16 n → Entries16 m → Taken limit l → answerOf t (mftOf limit t) ≡ record { state = value (told size start n m l); matrix = nine (l .matrix) }
+  unfolding answerOf colourTable
+  answered en em k =
+      let h : LaidOut t = record {
+        type-is = s .type-is;
+        input-least = rw (s .n-is) (en .0);
+        input-most = rw (s .n-is) (en .1);
+        output-least = rw (s .m-is) (em .0);
+        output-most = rw (s .m-is) (em .1);
+        whole = omega (arith, s .whole, s .start-is, input-bytes, clut-bytes, output-bytes);
+      } in
+      let w : Asked limit t = record {
+        some-inputs = rw (s .i-is) (k .some-inputs);
+        few-inputs = rw (s .i-is) (k .few-inputs);
+        some-outputs = rw (s .o-is) (k .some-outputs);
+        few-outputs = rw (s .o-is) (k .few-outputs);
+        three = rw (s .i-is, s .o-is) (k .three);
+        wide = rw (s .g-is) (k .wide);
+        within = rw points (k .within);
+      } in
+      rw (conforms limit t h w, told-fields, s .matrix-is)
 
-pub conforms : (limit : ℕ) (t : List ℕ) → LaidOut t → Asked limit t → mftOf limit t ≡ value (fieldsOf t)
-unfolding mftOf numbersOf tablesOf
-conforms limit t h w =
-    let start : tablesStart t ≤ length t = omega (arith, start-before t, h .whole) in
-    let head : 48 ≤ length t = omega (arith, start-least t, start) in
-    rw (le-ltb _ _ head, type-known t (h .type-is), le-ltb _ _ start, good-numbers limit t h w, le-ltb _ _ (w .within), le-ltb _ _ (h .whole))
+-- ---- written, then read
 
--- ---- what is accepted is laid out so
+four : (a b c rest : List ℕ) → length (a ++ b ++ c ++ rest) ≡ length a + length b + length c + length rest
+four a b c rest = simp length-append
 
-pub record Accepted (limit : ℕ) (t : List ℕ) (f : Fields) : Type 0 where
-  pub laid : LaidOut t
-  pub asked : Asked limit t
-  pub fields-are : f ≡ fieldsOf t
+module _ (limit reserved reserved2 : ℕ) (l : Lut) (rest : List ℕ) (k : Taken limit l) where
+  pub written-read16 : (n m : ℕ) → Entries16 n → Entries16 m → Sized n m l → let t : List ℕ = lut16Type reserved reserved2 n m l ++ rest in answerOf t (mftOf limit t) ≡ record { state = value (told16 n m l); matrix = nine (l .matrix) }
+  unfolding lut16Type isWide entrySize tablesStart entriesAt signatureOf each32
+  written-read16 n m en em z =
+      let t : List ℕ = lut16Type reserved reserved2 n m l ++ rest in
+      let s : Seen t 2 52 n m l = record {
+        type-is = inr refl;
+        size-is = refl;
+        start-is = refl;
+        n-is = read16 n (omega arith);
+        m-is = read16 m (omega arith);
+        i-is = refl;
+        o-is = refl;
+        g-is = refl;
+        matrix-is = sym (words-drop t 12 0 9) ∙ words-written (nine (l .matrix)) _ (k .matrix);
+        whole = omega (arith, four (each16 (l .inputTables)) (each16 (l .clut)) (each16 (l .outputTables)) rest, length16 (l .inputTables), length16 (l .clut), length16 (l .outputTables));
+      } in
+      answered limit t 2 52 n m l s z en em k
 
-outside-least : (low x high : ℕ) → outside low x high ≡ false → low ≤ x
-unfolding outside
-outside-least low x high e = ltb-false x low (neither-left (ltb x low) (ltb high x) e)
+  pub written-read8 : Sized 256 256 l → let t : List ℕ = lut8Type reserved reserved2 l ++ rest in answerOf t (mftOf limit t) ≡ record { state = value (told8 l); matrix = nine (l .matrix) }
+  unfolding lut8Type isWide entrySize tablesStart entriesAt signatureOf each32
+  written-read8 z =
+      let t : List ℕ = lut8Type reserved reserved2 l ++ rest in
+      let s : Seen t 1 48 256 256 l = record {
+        type-is = inl refl;
+        size-is = refl;
+        start-is = refl;
+        n-is = refl;
+        m-is = refl;
+        i-is = refl;
+        o-is = refl;
+        g-is = refl;
+        matrix-is = sym (words-drop t 12 0 9) ∙ words-written (nine (l .matrix)) _ (k .matrix);
+        whole = omega (arith, four (l .inputTables) (l .clut) (l .outputTables) rest);
+      } in
+      answered limit t 1 48 256 256 l s z (omega arith) (omega arith) k
 
-outside-most : (low x high : ℕ) → outside low x high ≡ false → x ≤ high
-unfolding outside
-outside-most low x high e = ltb-false high x (neither-right (ltb x low) (ltb high x) e)
+-- ---- read, then written
 
--- of two tests one holds
-one-of : (a b : Bool) → not (a || b) ≡ false → (a ≡ true) ⊎ (b ≡ true)
-one-of true b e = inl refl
-one-of false true e = inr refl
-one-of false false e = absurd (true≢false e)
+module _ (limit : ℕ) (t : List ℕ) (b : Bytes t) where
+  abbrev matrixAt : Matrix
+  matrixAt =
+      record {
+        e1 = u32At t 12;
+        e2 = u32At t 16;
+        e3 = u32At t 20;
+        e4 = u32At t 24;
+        e5 = u32At t 28;
+        e6 = u32At t 32;
+        e7 = u32At t 36;
+        e8 = u32At t 40;
+        e9 = u32At t 44;
+      }
 
--- which the tests are of
-one-is : (a b c d : ℕ) → not (eqb a b || eqb c d) ≡ false → (a ≡ b) ⊎ (c ≡ d)
-one-is a b c d e = elim (one-of (eqb a b) (eqb c d) e) [
-  | inl x ↦ inl (eqb-true a b x)
-  | inr x ↦ inr (eqb-true c d x)
-]
+  abbrev lutOf : (a c z : List ℕ) → Lut
+  lutOf a c z =
+      record { inputChannels = inputs t; outputChannels = outputs t; gridPoints = gridPoints t; matrix = matrixAt; inputTables = a; clut = c; outputTables = z }
 
-Facts : ℕ → List ℕ → State → Type 0
-Facts limit t (value f) = Accepted limit t f
-Facts limit t (refused n) = Unit
+  taken : (a c z : List ℕ) → Asked limit t → Taken limit (lutOf a c z)
+  unfolding colourTable wordsAt
+  taken a c z w =
+      record {
+        some-inputs = w .some-inputs;
+        few-inputs = w .few-inputs;
+        some-outputs = w .some-outputs;
+        few-outputs = w .few-outputs;
+        three = w .three;
+        wide = w .wide;
+        within = rw (power-is (inputs t) (gridPoints t)) at (w .within);
+        matrix = words-below t b 12 9;
+      }
 
-facts : (limit : ℕ) (t : List ℕ) → Facts limit t (mftOf limit t)
-unfolding Facts mftOf numbersOf tablesOf badNumbers badEntries badChannels isMft isWide
-facts limit t =
-    let P : State → Type 0 = Facts limit t in
-    let i : ℕ = inputs t in
-    let o : ℕ = outputs t in
-    let n : ℕ = inputEntries t in
-    let m : ℕ = outputEntries t in
-    each P (ltb (length t) 48) _ _ (λ _. tt)
-    (λ _. each P (not (isMft t)) _ _ (λ _. tt)
-    (λ k. each P (ltb (length t) (tablesStart t)) _ _ (λ _. tt)
-    (λ _. each P (badEntries t || badChannels t || ltb (gridPoints t) 2) _ _ (λ _. tt)
-    (λ b. each P (ltb limit (pointsOf (colourTable t))) _ _ (λ _. tt)
-    (λ p. each P (ltb (length t) (tablesEnd t)) _ _ (λ _. tt)
-    (λ e.
-    let e-c : badEntries t || badChannels t ≡ false = neither-left _ (ltb (gridPoints t) 2) b in
-    let es : outside 2 n 4096 || outside 2 m 4096 ≡ false = neither-left (badEntries t) (badChannels t) e-c in
-    let cs : outside 1 i 4 || outside 1 o 4 || not (eqb i 3 || eqb o 3) ≡ false = neither-right (badEntries t) (badChannels t) e-c in
-    let sides : outside 1 i 4 || outside 1 o 4 ≡ false = neither-left _ (not (eqb i 3 || eqb o 3)) cs in
-    let ni : outside 2 n 4096 ≡ false = neither-left _ (outside 2 m 4096) es in
-    let no : outside 2 m 4096 ≡ false = neither-right (outside 2 n 4096) _ es in
-    let ci : outside 1 i 4 ≡ false = neither-left _ (outside 1 o 4) sides in
-    let co : outside 1 o 4 ≡ false = neither-right (outside 1 i 4) _ sides in
-    record {
-      laid = record {
-        type-is = one-is _ _ _ _ k;
-        input-least = outside-least 2 n 4096 ni;
-        input-most = outside-most 2 n 4096 ni;
-        output-least = outside-least 2 m 4096 no;
-        output-most = outside-most 2 m 4096 no;
-        whole = ltb-false (length t) (tablesEnd t) e;
-      };
-      asked = record {
-        some-inputs = outside-least 1 i 4 ci;
-        few-inputs = outside-most 1 i 4 ci;
-        some-outputs = outside-least 1 o 4 co;
-        few-outputs = outside-most 1 o 4 co;
-        three = one-is i 3 o 3 (neither-right (outside 1 i 4 || outside 1 o 4) _ cs);
-        wide = ltb-false (gridPoints t) 2 (neither-right (badEntries t || badChannels t) _ b);
-        within = ltb-false limit _ p;
-      };
-      fields-are = refl;
-    }))))))
+  abbrev clutEntries : ℕ
+  clutEntries = gridPoints t ^ inputs t * outputs t
 
-pub accepted : (limit : ℕ) (t : List ℕ) (f : Fields) → mftOf limit t ≡ value f → Accepted limit t f
-unfolding Facts
-accepted limit t f h = subst (Facts limit t) h (facts limit t)
+  -- the first 48 bytes
+  head : (type : ℕ) {x : List ℕ} → u32At t 0 ≡ type → 48 ≤ length t → drop 48 t ≡ x → t ≡ be32 type ++ (be32 (u32At t 4) ++ (inputs t ∷ outputs t ∷ gridPoints t ∷ getD t 11 0 ∷ (each32 (nine matrixAt) ++ x)))
+  unfolding wordsAt
+  head type e l h =
+      then32 t b 0 (omega arith) e (then32 t b 4 (omega arith) refl (then8 t 8 (omega arith) refl (then8 t 9 (omega arith) refl (then8 t 10 (omega arith) refl (then8 t 11 (omega arith) refl (row32 t b 9 12 (omega arith) refl h))))))
+
+  -- three tables one behind the other
+  three : (a c z rest : List ℕ) → a ++ (c ++ (z ++ rest)) ≡ a ++ c ++ z ++ rest
+  three a c z rest = simp append-assoc
+
+  begins16 : (f : Fields) → u32At t 0 ≡ signatureOf Mft2 → LaidOut t → Asked limit t → f ≡ fieldsOf t → Begins16 limit t f (matrixOf t)
+  unfolding lut16Type isWide entrySize tablesStart entriesAt signatureOf each32 wordsAt colourTable
+  begins16 f e h w q =
+      let y : eqb (u32At t 0) 0x6d667432 ≡ true = eq-eqb _ _ e in
+      let n : ℕ = u16At t 48 in
+      let m : ℕ = u16At t 50 in
+      let u : ℕ = n * inputs t in
+      let v : ℕ = clutEntries in
+      let x : ℕ = m * outputs t in
+      let a : List ℕ = halvesAt t 52 u in
+      let c : List ℕ = halvesAt t (52 + 2 * u) v in
+      let z : List ℕ = halvesAt t (52 + 2 * u + 2 * v) x in
+      let r : List ℕ = drop (52 + 2 * u + 2 * v + 2 * x) t in
+      let whole : 52 + n * inputs t * 2 + gridPoints t ^ inputs t * outputs t * 2 + m * outputs t * 2 ≤ length t = rw (y, power-is (inputs t) (gridPoints t)) at (h .whole) in
+      let end : 52 + 2 * u + 2 * v + 2 * x ≤ length t = omega arith in
+      let s : Seen t 2 52 n m (lutOf a c z) = record {
+        type-is = inr e;
+        size-is = rw y;
+        start-is = rw y;
+        n-is = rw y;
+        m-is = rw y;
+        i-is = refl;
+        o-is = refl;
+        g-is = refl;
+        matrix-is = refl;
+        whole = rw (halves-length t 52 u, halves-length t (52 + 2 * u) v, halves-length t (52 + 2 * u + 2 * v) x) end;
+      } in
+      let sized : Sized n m (lutOf a c z) = record { input-tables = halves-length t 52 u; clut-points = halves-length t (52 + 2 * u) v; output-tables = halves-length t (52 + 2 * u + 2 * v) x } in
+      record {
+        reserved = u32At t 4;
+        reserved2 = getD t 11 0;
+        inputEntries = n;
+        outputEntries = m;
+        lut = lutOf a c z;
+        rest = r;
+        input-entries = (rw y at (h .input-least), rw y at (h .input-most));
+        output-entries = (rw y at (h .output-least), rw y at (h .output-most));
+        sized = sized;
+        taken = taken a c z w;
+        told-is = q ∙ told-fields limit t 2 52 n m (lutOf a c z) s sized;
+        matrix-is = refl;
+        is = head 0x6D667432 e (omega arith) (then16 t b 48 (omega arith) refl (then16 t b 50 (omega arith) refl (row16 t b u 52 (omega arith) refl (row16 t b v (52 + 2 * u) (omega arith) refl (row16 t b x (52 + 2 * u + 2 * v) end refl refl)) ∙ three (each16 a) (each16 c) (each16 z) r)));
+      }
+
+  part-length : (i n : ℕ) → i + n ≤ length t → length (take n (drop i t)) ≡ n
+  part-length i n l = length-take-le n (drop i t) (omega (arith, length-drop i t))
+
+  begins8 : (f : Fields) → u32At t 0 ≡ signatureOf Mft1 → LaidOut t → Asked limit t → f ≡ fieldsOf t → Begins8 limit t f (matrixOf t)
+  unfolding lut8Type isWide entrySize tablesStart entriesAt signatureOf each32 wordsAt colourTable
+  begins8 f e h w q =
+      let y : eqb (u32At t 0) 0x6d667432 ≡ false = ap (λ (k : ℕ). eqb k 0x6d667432) e in
+      let u : ℕ = 256 * inputs t in
+      let v : ℕ = clutEntries in
+      let x : ℕ = 256 * outputs t in
+      let a : List ℕ = take u (drop 48 t) in
+      let c : List ℕ = take v (drop (48 + u) t) in
+      let z : List ℕ = take x (drop (48 + u + v) t) in
+      let r : List ℕ = drop (48 + u + v + x) t in
+      let whole : 48 + 256 * inputs t * 1 + gridPoints t ^ inputs t * outputs t * 1 + 256 * outputs t * 1 ≤ length t = rw (y, power-is (inputs t) (gridPoints t)) at (h .whole) in
+      let end : 48 + u + v + x ≤ length t = omega arith in
+      let la : length a ≡ u = part-length 48 u (omega arith) in
+      let lc : length c ≡ v = part-length (48 + u) v (omega arith) in
+      let lz : length z ≡ x = part-length (48 + u + v) x end in
+      let s : Seen t 1 48 256 256 (lutOf a c z) = record {
+        type-is = inl e;
+        size-is = rw y;
+        start-is = rw y;
+        n-is = rw y;
+        m-is = rw y;
+        i-is = refl;
+        o-is = refl;
+        g-is = refl;
+        matrix-is = refl;
+        whole = rw (la, lc, lz) (omega arith);
+      } in
+      let sized : Sized 256 256 (lutOf a c z) = record { input-tables = la; clut-points = lc; output-tables = lz } in
+      record {
+        reserved = u32At t 4;
+        reserved2 = getD t 11 0;
+        lut = lutOf a c z;
+        rest = r;
+        sized = sized;
+        taken = taken a c z w;
+        told-is = q ∙ told-fields limit t 1 48 256 256 (lutOf a c z) s sized;
+        matrix-is = refl;
+        is = head 0x6D667431 e (omega arith) (row8 t u 48 (row8 t v (48 + u) (row8 t x (48 + u + v) refl)) ∙ three a c z r);
+      }
+
+  -- what is accepted is what the standard writes
+  pub read-written : (f : Fields) → mftOf limit t ≡ value f → Begins8 limit t f (matrixOf t) ⊎ Begins16 limit t f (matrixOf t)
+  read-written f v =
+      let w = accepted limit t f v in
+      elim (w .laid .type-is) [
+        | inl e ↦ inl (begins8 f e (w .laid) (w .asked) (w .fields-are))
+        | inr e ↦ inr (begins16 f e (w .laid) (w .asked) (w .fields-are))
+      ]

@@ -13,7 +13,7 @@ use Rattle.clut_meaning.proofs.Grid.{entry-below, power-is}
 use Rattle.mft_meaning.specs.Answer.{Fields, value, fieldsOf, toldTable}
 use Rattle.mft_meaning.specs.Layout.{isWide, inputs, outputs, gridPoints, entrySize, colourTable}
 use Rattle.mft_meaning.specs.Mft.{mftOf}
-use Rattle.mft_meaning.proofs.Conforms.{accepted, start-least}
+use Rattle.mft_meaning.proofs.Accepted.{accepted, start-least}
 
 pub record Inside (t : List ℕ) (f : Fields) : Type 0 where
   pub matrix-in-tag : 12 + 4 * 9 ≤ length t

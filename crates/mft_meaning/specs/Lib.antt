@@ -3,4 +3,3 @@ pub mod Answer
 pub mod Mft
 pub mod Standard
 pub mod Cases
-pub mod Written

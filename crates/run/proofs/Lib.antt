@@ -2,4 +2,4 @@ pub mod Runs
 pub mod Limit
 pub mod Records
 pub mod Writing
-pub mod Written
+pub mod Conforms

@@ -1,2 +1,2 @@
 pub mod Run
-pub mod Written
+pub mod Standard

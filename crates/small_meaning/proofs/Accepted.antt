@@ -13,30 +13,33 @@ use Rattle.fields.specs.Tag.{signatureOf}
 use Rattle.fields.specs.declared.Kind.the-variants.{Sf32}
 use Rattle.fields.proofs.Choice.{each}
 use Rattle.small_meaning.specs.Answer.{Answer, value}
-use Rattle.small_meaning.specs.Layout.{measurement, firstXyz}
+use Rattle.small_meaning.specs.Layout.{nineNumbers, measurement, firstXyz}
 use Rattle.small_meaning.specs.Small.{matrixOf, chadOf, windowOf, tripleOf}
-use Rattle.small_meaning.specs.Standard.{LaidNine}
 use Rattle.small_meaning.proofs.Order.{no-absence, no-refusal}
 
 pub fields-are : {xs ws : List ℕ} → value xs ≡ value ws → xs ≡ ws
 fields-are e = cc
 
-pub matrix-behind : (t ws : List ℕ) → matrixOf t ≡ value ws → LaidNine t ws
+-- a tag of nine numbers
+pub record Nine (t ws : List ℕ) : Type 0 where
+  pub signature : u32At t 0 ≡ signatureOf Sf32
+  pub filled : length t ≡ 44
+  pub given : nineNumbers t ≡ ws
+
+pub matrix-behind : (t ws : List ℕ) → matrixOf t ≡ value ws → Nine t ws
 unfolding matrixOf
 matrix-behind t ws =
-    let P : Answer → Type 0 = λ a. a ≡ value ws → LaidNine t ws in
+    let P : Answer → Type 0 = λ a. a ≡ value ws → Nine t ws in
     each P (eqb (u32At t 0) (signatureOf Sf32)) _ _
     (λ s. each P (eqb (length t) 44) _ _
-    (λ l e.
-    let n : length t ≡ 44 = eqb-true _ _ l in
-    record { laid = record { signature = eqb-true _ _ s; whole = omega arith; given = fields-are e }; filled = n })
+    (λ l e. record { signature = eqb-true _ _ s; filled = eqb-true _ _ l; given = fields-are e })
     (λ _ e. absurd (no-refusal 17 ws e)))
     (λ _ e. absurd (no-refusal 17 ws e))
 
-pub chad-behind : (p : List ℕ) (entry size : ℕ) (ws : List ℕ) → chadOf p entry size ≡ value ws → (entry + size ≤ length p) × LaidNine (tagAt p entry size) ws
+pub chad-behind : (p : List ℕ) (entry size : ℕ) (ws : List ℕ) → chadOf p entry size ≡ value ws → (entry + size ≤ length p) × Nine (tagAt p entry size) ws
 unfolding chadOf
 chad-behind p entry size ws =
-    let P : Answer → Type 0 = λ a. a ≡ value ws → (entry + size ≤ length p) × LaidNine (tagAt p entry size) ws in
+    let P : Answer → Type 0 = λ a. a ≡ value ws → (entry + size ≤ length p) × Nine (tagAt p entry size) ws in
     each P (ltb (length p) (entry + size)) _ _ (λ _ e. absurd (no-refusal 1 ws e))
     (λ f. each P (ltb (length p) (entry + 8)) _ _ (λ _ e. absurd (no-refusal 1 ws e))
     (λ _. each P (ltb size 8) _ _ (λ _ e. absurd (no-absence ws e))

@@ -5,4 +5,3 @@ pub mod Accepted
 pub mod Inside
 pub mod Conforms
 pub mod Cases
-pub mod Written

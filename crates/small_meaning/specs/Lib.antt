@@ -4,4 +4,3 @@ pub mod Layout
 pub mod Small
 pub mod Standard
 pub mod Cases
-pub mod Written

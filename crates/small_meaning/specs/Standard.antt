@@ -1,55 +1,74 @@
--- What the standard lays out for the types of the small readers, and what it is to conform to that. The standard also asks that bytes 4 to
--- 7, which are reserved, be 0; no reader looks at them.
+-- The elements of the small readers as the standard writes them (crate `icc`), and what is answered: the numbers of an answer by the names of the
+-- standard, and what it is to conform. Nothing here goes by the readers' own layout.
 use Prim.Native.Nat.{ℕ, _+_, _≤_}
 use mathlib.Core.Path.{_≡_}
-use mathlib.Core.List.{List}
-use lib.ListN.{length}
-use Rattle.fields.specs.Bytes.{u32At}
-use Rattle.fields.specs.Place.{tagAt}
-use Rattle.fields.specs.Tag.{signatureOf}
-use Rattle.fields.specs.declared.Kind.{Kind}
-use Rattle.fields.specs.declared.Kind.the-variants.{Sf32}
+use mathlib.Core.List.{List, [], _∷_, _++_}
+use lib.ListN.{length, take, drop}
+use Rattle.icc.specs.Numbers.{Bytes}
+use Rattle.icc.specs.Small.{XYZNumber, DateTime, dateTimeNumber, Measurement, ViewingConditions, Cicp, s15Fixed16ArrayType, dateTimeType, xyzType}
 use Rattle.small_meaning.specs.Answer.{Answer, value}
-use Rattle.small_meaning.specs.Layout.{nineNumbers, dateBytes}
 
--- ---- what is laid out
+abbrev pub signatureTold : ℕ → List ℕ
+signatureTold signature = signature ∷ []
 
--- the bytes t begin with an element of this kind, whose fields are these and end at `end`
-pub record Laid (kind : Kind) (end : ℕ) (fields : List ℕ → List ℕ) (t ws : List ℕ) : Type 0 where
-  pub signature : u32At t 0 ≡ signatureOf kind
-  pub whole : end ≤ length t
-  pub given : fields t ≡ ws
+abbrev pub xyzTold : XYZNumber → List ℕ
+xyzTold n = n .X ∷ n .Y ∷ n .Z ∷ []
 
--- the numbers of s15Fixed16ArrayType fill the element; those of a chromatic adaptation matrix are nine
-pub record LaidNine (t ws : List ℕ) : Type 0 where
-  pub laid : Laid Sf32 44 nineNumbers t ws
-  pub filled : length t ≡ 44
+-- of an array of XYZNumbers the first is answered
+pub record SomeXyz : Type 0 where
+  pub first : XYZNumber
+  pub others : List XYZNumber
 
--- ---- what is asked of a call besides
+abbrev pub someXyzType : ℕ → SomeXyz → List ℕ
+someXyzType reserved x = xyzType reserved (x .first ∷ x .others)
 
-abbrev pub Always : List ℕ → ℕ → ℕ → Type 0
-Always p entry size = Unit
+abbrev pub firstTold : SomeXyz → List ℕ
+firstTold x = xyzTold (x .first)
 
--- the tag lies in the profile; `view` does not look at its end
-abbrev pub InProfile : List ℕ → ℕ → ℕ → Type 0
-InProfile p entry size = entry + size ≤ length p
+abbrev pub measurementTold : Measurement → List ℕ
+measurementTold m = m .observer ∷ m .backing .X ∷ m .backing .Y ∷ m .backing .Z ∷ m .geometry ∷ m .flare ∷ m .illuminant ∷ []
 
--- the tag holds a measurement; `meas` goes on behind a shorter one
-abbrev pub Whole36 : List ℕ → ℕ → ℕ → Type 0
-Whole36 p entry size = 36 ≤ size
+abbrev pub viewTold : ViewingConditions → List ℕ
+viewTold v = v .illuminant .X ∷ v .illuminant .Y ∷ v .illuminant .Z ∷ v .surround .X ∷ v .surround .Y ∷ v .surround .Z ∷ v .type ∷ []
 
--- the front of the profile, where `dtim` looks, has the tag's date
-abbrev pub SameDate : List ℕ → ℕ → ℕ → Type 0
-SameDate p entry size = dateBytes (tagAt p 0 20) ≡ dateBytes (tagAt p entry size)
+abbrev pub cicpTold : Cicp → List ℕ
+cicpTold c = c .primaries ∷ c .transfer ∷ c .matrix ∷ c .range ∷ []
 
--- ---- conformance, both ways
+module _ {A : Type 0} (element : ℕ → A → List ℕ) (told : A → List ℕ) where
+  -- the tag of a profile begins with an element that is answered so
+  pub record Begins (p : List ℕ) (entry size : ℕ) (ws : List ℕ) : Type 0 where
+    pub inside : entry + size ≤ length p
+    pub reserved : ℕ
+    pub said : A
+    pub rest : List ℕ
+    pub answer-is : ws ≡ told said
+    pub is : take size (drop entry p) ≡ element reserved said ++ rest
 
--- a reader accepts what is laid out so, with its fields
-abbrev pub Accepts : (List ℕ → ℕ → ℕ → Answer) → (List ℕ → List ℕ → Type 0) → (List ℕ → ℕ → ℕ → Type 0) → Type 0
-Accepts reader Layout Asked =
-    (p : List ℕ) (entry size : ℕ) (ws : List ℕ) → InProfile p entry size → Asked p entry size → Layout (tagAt p entry size) ws → reader p entry size ≡ value ws
+module _ {A : Type 0} (reader : List ℕ → ℕ → ℕ → Answer) (element : ℕ → A → List ℕ) (told : A → List ℕ) where
+  -- a tag that begins with what the standard writes is answered with what was written
+  abbrev pub WrittenRead : (A → Type 0) → Type 0
+  WrittenRead Fits =
+      (p : List ℕ) (entry size reserved : ℕ) (x : A) (rest : List ℕ) → Fits x → entry + size ≤ length p → take size (drop entry p) ≡ element reserved x ++ rest → reader p entry size ≡ value (told x)
 
--- and what it accepts is laid out so
-abbrev pub AcceptsOnly : (List ℕ → ℕ → ℕ → Answer) → (List ℕ → List ℕ → Type 0) → (List ℕ → ℕ → ℕ → Type 0) → Type 0
-AcceptsOnly reader Layout Asked =
-    (p : List ℕ) (entry size : ℕ) (ws : List ℕ) → Asked p entry size → reader p entry size ≡ value ws → InProfile p entry size × Layout (tagAt p entry size) ws
+  -- and what is answered with a value is a tag that begins so
+  abbrev pub ReadWritten : (List ℕ → ℕ → ℕ → Type 0) → Type 0
+  ReadWritten Asked =
+      (p : List ℕ) (entry size : ℕ) (ws : List ℕ) → Bytes p → Asked p entry size → reader p entry size ≡ value ws → Begins element told p entry size ws
+
+-- `chad`: the tag is nine numbers of s15Fixed16ArrayType and nothing else
+pub record BeginsNine (p : List ℕ) (entry size : ℕ) (ws : List ℕ) : Type 0 where
+  pub inside : entry + size ≤ length p
+  pub nine : length ws ≡ 9
+  pub reserved : ℕ
+  pub is : take size (drop entry p) ≡ s15Fixed16ArrayType reserved ws
+
+-- `dtim`: the tag is a dateTimeType, and the answer the dateTimeNumber that a tag at the front of the profile would have
+pub record BeginsDate (p : List ℕ) (entry size : ℕ) (ws : List ℕ) : Type 0 where
+  pub inside : entry + size ≤ length p
+  pub reserved : ℕ
+  pub in-tag : DateTime
+  pub rest : List ℕ
+  pub is : take size (drop entry p) ≡ dateTimeType reserved in-tag ++ rest
+  pub in-front : DateTime
+  pub front-is : drop 8 (take 20 p) ≡ dateTimeNumber in-front
+  pub answer-is : ws ≡ dateTimeNumber in-front
