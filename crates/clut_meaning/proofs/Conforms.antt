@@ -1,4 +1,4 @@
--- Conformance to the CLUT element as `icc` writes it, both ways.
+-- Conformance to the CLUT element, both ways.
 -- Assumes nothing.
 use Prim.Native.Nat.{ℕ, zero, suc, _+_, _*_, _-_, _≤_, _<_, min}
 use native.Mathlib.Omega.{arith}
@@ -6,9 +6,10 @@ use mathlib.Core.Path.{_≡_, refl, sym, ap, _∙_}
 use mathlib.Core.List.{List, [], _∷_, _++_, append-assoc}
 use lib.ListN.{length, getD, take, drop, length-append, length-drop}
 use lib.Seq.{take-at, getD-at, getD-drop, length-take-le}
-use Rattle.icc.specs.Elements.{Stands, Entries, bytes, words, precision, count, entryBytes, points, Clut, clutElement, ClutSized}
+use Rattle.icc.specs.Elements.{Stands, Entries, bytes, words, precision, numbers, EntriesFit, entryBytes, Clut, clutElement, ClutSized}
+use Rattle.icc.specs.Grid.{points}
 use Rattle.icc.specs.Numbers.{each16, Bytes}
-use Rattle.fields.proofs.Written.{length16, then8, row8, row16, halvesAt, halves-length}
+use Rattle.fields.proofs.Written.{length16, then8, row8, row16, halvesAt, halves-length, halves-below}
 use Rattle.clut_meaning.specs.Clut.{is, gridAt, clutOf}
 use Rattle.clut_meaning.specs.Table.{Table, product, entriesOf, lengthOf}
 use Rattle.clut_meaning.specs.Standard.{Taken, told, Standing}
@@ -16,17 +17,17 @@ use Rattle.clut_meaning.proofs.Accepted.{Laid, Within, conforms, accept
 
 -- ---- the numbers of a CLUT
 
-points-are : (gs : List ℕ) → points gs ≡ product gs
+pub points-are : (gs : List ℕ) → points gs ≡ product gs
 unfolding points product
 points-are [] = refl
 points-are (g ∷ gs) = rw (points-are gs)
 
-entry-length : (e : Entries) → length (entryBytes e) ≡ count e * precision e
-unfolding entryBytes count precision
+entry-length : (e : Entries) → length (entryBytes e) ≡ length (numbers e) * precision e
+unfolding entryBytes numbers precision
 entry-length (bytes ns) = omega arith
 entry-length (words ns) = omega (arith, length16 ns)
 
-precision-least : (e : Entries) → 1 ≤ precision e
+pub precision-least : (e : Entries) → 1 ≤ precision e
 unfolding precision
 precision-least (bytes ns) = omega arith
 precision-least (words ns) = omega arith
@@ -39,7 +40,7 @@ precision-most (words ns) = omega arith
 -- ---- written, then read
 
 module _ (t : List ℕ) (at inputs outputs : ℕ) (c : Clut) (s : Stands t at (clutElement c)) (z : ClutSized inputs outputs c) where
-  entries-are : entriesOf (told at outputs c) ≡ count (c .entries)
+  entries-are : entriesOf (told at outputs c) ≡ length (numbers (c .entries))
   entries-are = rw (← points-are (c .grid)) (sym (z .all-entries))
 
   -- the data of the table are the entries
@@ -100,9 +101,9 @@ module _ (t : List ℕ) (b : Bytes t) (at inputs outputs : ℕ) (few : inputs �
       record { grid = gridAt t at inputs; unused = take (16 - n) (drop (at + n) t); pad1 = getD t i17 0; pad2 = getD t (i17 + 1) 0; pad3 = getD t (i17 + 1 + 1) 0; entries = e }
 
   -- with the entries that stand there
-  standing : (e : Entries) (x : List ℕ) → precision e ≡ table .size → count e ≡ k → drop i20 t ≡ entryBytes e ++ x → Standing t at inputs outputs table
+  standing : (e : Entries) (x : List ℕ) → precision e ≡ table .size → length (numbers e) ≡ k → EntriesFit e → drop i20 t ≡ entryBytes e ++ x → Standing t at inputs outputs table
   unfolding clutElement
-  standing e x p c d =
+  standing e x p c fits d =
       let long : at + 20 ≤ length t = omega (arith, h .whole, h .start-is) in
       let ng : length (gridAt t at inputs) ≡ n = length-take-le n (drop at t) (omega (arith, length-drop at t)) in
       let nu : length (take (16 - n) (drop (at + n) t)) ≡ 16 - n = length-take-le (16 - n) (drop (at + n) t) (omega (arith, length-drop (at + n) t)) in
@@ -113,18 +114,18 @@ module _ (t : List ℕ) (b : Bytes t) (at inputs outputs : ℕ) (few : inputs �
         clut = clutWith e;
         stands = record { behind = x; is = all ∙ regroup (gridAt t at inputs) (take (16 - n) (drop (at + n) t)) (entryBytes e) x _ _ _ _ };
         sized = record { dimensions = omega arith; sixteen = omega arith; all-entries = c ∙ ap (λ (g : List ℕ). product g * table .outputs) (h .grid-is) ∙ ap (λ (o : ℕ). product (gridAt t at inputs) * o) (h .outputs-are) ∙ sym (ap (λ (q : ℕ). q * outputs) (points-are (gridAt t at inputs))) };
-        taken = record { wide = rw (h .grid-is) at (w .wide); one = rw c (w .one); few = rw c (w .few) };
+        taken = record { fits = fits; wide = rw (h .grid-is) at (w .wide); one = rw c (w .one); few = rw c (w .few) };
         told-is = ap (λ (g : List ℕ). tableWith g (table .outputs) (table .start) (table .size)) (h .grid-is) ∙ ap (λ (o : ℕ). tableWith (gridAt t at inputs) o (table .start) (table .size)) (h .outputs-are) ∙ ap (λ (i : ℕ). tableWith (gridAt t at inputs) outputs i (table .size)) (h .start-is) ∙ ap (tableWith (gridAt t at inputs) outputs (at + 20)) (sym p);
       }
 
   by-size : (s : ℕ) → s ≡ table .size → 1 ≤ s → s ≤ 2 → i20 + k * s ≤ length t → Standing t at inputs outputs table
-  unfolding precision count entryBytes
+  unfolding precision numbers EntriesFit entryBytes
   by-size zero e l m r = absurd (omega arith)
   by-size (suc zero) e l m r =
       let long : k ≤ length (drop i20 t) = omega (arith, length-drop i20 t) in
-      standing (bytes (take k (drop i20 t))) (drop (i20 + k) t) e (length-take-le k (drop i20 t) long) (row8 t k i20 refl)
+      standing (bytes (take k (drop i20 t))) (drop (i20 + k) t) e (length-take-le k (drop i20 t) long) tt (row8 t k i20 refl)
   by-size (suc (suc zero)) e l m r =
-      standing (words (halvesAt t i20 k)) (drop (i20 + 2 * k) t) e (halves-length t i20 k) (row16 t b k i20 (omega arith) refl refl)
+      standing (words (halvesAt t i20 k)) (drop (i20 + 2 * k) t) e (halves-length t i20 k) (halves-below t b i20 k) (row16 t b k i20 (omega arith) refl refl)
   by-size (suc (suc (suc s))) e l m r = absurd (omega arith)
 
 -- sixteen channels at most have their grid points in the element

@@ -27,7 +27,7 @@ power-is (suc n) g = rw (power-is n g) (sym (pow-succ' g n))
 -- ---- a valid index
 
 -- x of g, and y of n: the number x * n + y is below g * n
-below : (x g n y : ℕ) → x < g → y < n → x * n + y < g * n
+pub below : (x g n y : ℕ) → x < g → y < n → x * n + y < g * n
 below x g n y l m = omega (arith, mul-le-mul-right n l)
 
 pub point-below : (gs xs : List ℕ) → inGrid gs xs ≡ true → pointOf gs xs < product gs

@@ -1,4 +1,5 @@
 pub mod Grid
+pub mod Order
 pub mod Unique
 pub mod Accepted
 pub mod Inside

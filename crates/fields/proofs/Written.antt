@@ -1,18 +1,26 @@
--- A number that is written is read again, and what is read is what is written: the laws that carry conformance, once for all types.
+-- A number that the standard writes is read again, and what is read is what the standard writes: the laws that carry conformance, once for all
+-- types. And the signature of each type is the one that the standard writes.
 -- Assumes nothing.
-use Prim.Native.Nat.{ℕ, zero, suc, _+_, _*_, _/_, _%_, _≤_, _<_}
+use Prim.Native.Nat.{ℕ, zero, suc, _+_, _*_, _-_, _/_, _%_, _≤_, _<_}
 use native.Mathlib.Omega.{arith}
 use native.Mathlib.Nat.{add-zero, add-assoc}
 use native.Mathlib.Numerals.{add-one}
 use mathlib.Core.Path.{_≡_, refl, sym, ap, _∙_}
-use mathlib.Core.Bool.{Bool, true, false}
+use mathlib.Core.Bool.{Bool, true, false, cond}
 use mathlib.Core.List.{List, [], _∷_, _++_}
 use lib.Dec.{ltb}
+use lib.IntN.{ℤ, pos, negsuc}
 use lib.ListN.{length, getD, take, drop, take-append-drop, length-take, List·getD-eq-default}
 use lib.Seq.{drop-cons, drop-drop, getD-drop, getD-take}
-use borrow.Author.Tests.{ltb-true, ltb-false}
-use Rattle.icc.specs.Numbers.{be8, be16, be32, each16, each32, Is16, Is32, Each16, Each32, Bytes}
-use Rattle.fields.specs.Bytes.{number, u16At, u32At, bytesAt, wordsAt}
+use borrow.Author.Tests.{lt-ltb, le-ltb, ltb-true, ltb-false}
+use Rattle.icc.specs.Curves.{Function, curveType, parametricCurveType}
+use Rattle.icc.specs.Elements.{aToB, bToA, signature}
+use Rattle.icc.specs.Numbers.{be8, be16, be32, bits, IsFixed, s15Fixed16Number, each16, each32, Is16, Is32, Each16, Each32, Bytes}
+use Rattle.icc.specs.Small.{XYZNumber, DateTime, Measurement, ViewingConditions, Cicp, s15Fixed16ArrayType, signatureType, dateTimeType, measurementType, viewingConditionsType, xyzType, cicpType}
+use Rattle.icc.specs.Tables.{Lut, lut16Type, lut8Type}
+use Rattle.fields.specs.Bytes.{number, u16At, u32At, bytesAt, wordsAt, signed}
+use Rattle.fields.specs.Tag.{signatureOf}
+use Rattle.fields.specs.declared.Kind.the-variants.{Curv, Para, Mft1, Mft2, Mab, Mba, Xyz, Sf32, Meas, View, Cicp as KindCicp, Sig, Dtim}
 
 -- 16-bit numbers one behind the other
 unfoldable pub halvesAt : List ℕ → ℕ → ℕ → List ℕ
@@ -31,6 +39,26 @@ read16 n h = omega arith
 
 pub read32 : (n : ℕ) → Is32 n → number (n / 256 / 256 / 256 % 256) (n / 256 / 256 % 256) (n / 256 % 256) (n % 256) ≡ n
 read32 n h = omega arith
+
+-- the sign of an s15Fixed16Number: a word that is read as a signed number is the bits that the standard writes of it
+pub signed-bits : (z : ℤ) → IsFixed z → signed (bits z) ≡ z
+unfolding bits IsFixed
+signed-bits (pos n) h = rw (lt-ltb n 2147483648 h)
+signed-bits (negsuc n) h =
+    let high : 2147483648 ≤ 4294967295 - n = omega arith in
+    let back : 4294967295 - (4294967295 - n) ≡ n = omega arith in
+    rw (le-ltb (4294967295 - n) 2147483648 high, back)
+
+pub bits-signed : (w : ℕ) → Is32 w → IsFixed (signed w) × (be32 w ≡ s15Fixed16Number (signed w))
+unfolding bits IsFixed
+bits-signed w h = by (ltb w 2147483648) refl
+  where
+    by : (less : Bool) → ltb w 2147483648 ≡ less → let z : ℤ = cond less (pos w) (negsuc (4294967295 - w)) in IsFixed z × (be32 w ≡ s15Fixed16Number z)
+    by true e = (ltb-true w 2147483648 e, refl)
+    by false e =
+        let low = ltb-false w 2147483648 e in
+        let same : w ≡ 4294967295 - (4294967295 - w) = omega arith in
+        (omega arith, ap be32 same)
 
 -- how long a row of numbers is
 pub length16 : (ns : List ℕ) → length (each16 ns) ≡ 2 * length ns
@@ -53,15 +81,27 @@ unfolding wordsAt
 words-drop s i k zero = refl
 words-drop s i k (suc n) = rw (word-drop s i k, words-drop s i (k + 4) n, add-assoc i k 4)
 
+pub half-drop : (s : List ℕ) (i k : ℕ) → u16At (drop i s) k ≡ u16At s (i + k)
+half-drop s i k = rw (getD-drop i s k 0, getD-drop i s (k + 1) 0, add-assoc i k 1)
+
 pub halves-drop : (s : List ℕ) (i k n : ℕ) → halvesAt (drop i s) k n ≡ halvesAt s (i + k) n
 unfolding halvesAt
 halves-drop s i k zero = refl
-halves-drop s i k (suc n) = rw (getD-drop i s k 0, getD-drop i s (k + 1) 0, halves-drop s i (k + 2) n, add-assoc i k 1, add-assoc i k 2)
+halves-drop s i k (suc n) = rw (half-drop s i k, halves-drop s i (k + 2) n, add-assoc i k 2)
 
 pub bytes-drop : (s : List ℕ) (i k n : ℕ) → bytesAt (drop i s) k n ≡ bytesAt s (i + k) n
 unfolding bytesAt
 bytes-drop s i k zero = refl
 bytes-drop s i k (suc n) = rw (getD-drop i s k 0, bytes-drop s i (k + 1) n, add-assoc i k 1)
+
+-- one of a row of numbers of 16 bits
+pub half-at : (ns rest : List ℕ) → Each16 ns → (i : ℕ) → i < length ns → u16At (each16 ns ++ rest) (i * 2) ≡ getD ns i 0
+unfolding each16 Each16
+half-at [] rest h i l = absurd (omega arith)
+half-at (n ∷ ns) rest (h, hs) zero l = read16 n h
+half-at (n ∷ ns) rest (h, hs) (suc i) l =
+    let e : suc i * 2 ≡ 2 + i * 2 = omega arith in
+    ap (u16At (each16 (n ∷ ns) ++ rest)) e ∙ sym (half-drop (each16 (n ∷ ns) ++ rest) 2 (i * 2)) ∙ half-at ns rest hs i (omega arith)
 
 -- a row that is written is read again
 pub words-written : (ns rest : List ℕ) → Each32 ns → wordsAt (each32 ns ++ rest) 0 (length ns) ≡ ns
@@ -106,6 +146,11 @@ pub words-below : (t : List ℕ) → Bytes t → (i n : ℕ) → Each32 (wordsAt
 unfolding wordsAt Each32
 words-below t b i zero = tt
 words-below t b i (suc n) = (below32 t b i, words-below t b (i + 4) n)
+
+pub halves-below : (t : List ℕ) → Bytes t → (i n : ℕ) → Each16 (halvesAt t i n)
+unfolding halvesAt Each16
+halves-below t b i zero = tt
+halves-below t b i (suc n) = (below16 t b i, halves-below t b (i + 2) n)
 
 -- what stands behind, and a part, of bytes is bytes
 pub rest-bytes : (t : List ℕ) → Bytes t → (i : ℕ) → Bytes (drop i t)
@@ -159,3 +204,40 @@ module _ (t : List ℕ) where
 
   pub row8 : (n i : ℕ) {x : List ℕ} → drop (i + n) t ≡ x → drop i t ≡ take n (drop i t) ++ x
   row8 n i h = sym (take-append-drop n (drop i t)) ∙ rw (drop-drop n i t, h)
+
+-- ---- the signatures
+
+-- what the standard writes of each type begins with the signature that its kind is known by
+pub record Signatures : Type 0 where
+  pub curv : (r : ℕ) (ns : List ℕ) → u32At (curveType r ns) 0 ≡ signatureOf Curv
+  pub para : (r s : ℕ) (f : Function) → u32At (parametricCurveType r s f) 0 ≡ signatureOf Para
+  pub mft1 : (r s : ℕ) (l : Lut) → u32At (lut8Type r s l) 0 ≡ signatureOf Mft1
+  pub mft2 : (r s n m : ℕ) (l : Lut) → u32At (lut16Type r s n m l) 0 ≡ signatureOf Mft2
+  pub mab : signature aToB ≡ signatureOf Mab
+  pub mba : signature bToA ≡ signatureOf Mba
+  pub sf32 : (r : ℕ) (ns : List ℕ) → u32At (s15Fixed16ArrayType r ns) 0 ≡ signatureOf Sf32
+  pub sig : (r n : ℕ) → u32At (signatureType r n) 0 ≡ signatureOf Sig
+  pub dtim : (r : ℕ) (d : DateTime) → u32At (dateTimeType r d) 0 ≡ signatureOf Dtim
+  pub meas : (r : ℕ) (m : Measurement) → u32At (measurementType r m) 0 ≡ signatureOf Meas
+  pub view : (r : ℕ) (v : ViewingConditions) → u32At (viewingConditionsType r v) 0 ≡ signatureOf View
+  pub xyz : (r : ℕ) (ns : List XYZNumber) → u32At (xyzType r ns) 0 ≡ signatureOf Xyz
+  pub cicp : (r : ℕ) (c : Cicp) → u32At (cicpType r c) 0 ≡ signatureOf KindCicp
+
+pub signatures : Signatures
+unfolding signatureOf curveType parametricCurveType lut8Type lut16Type s15Fixed16ArrayType signatureType dateTimeType measurementType viewingConditionsType xyzType cicpType
+signatures =
+    record {
+      curv = λ r ns. refl;
+      para = λ r s f. refl;
+      mft1 = λ r s l. refl;
+      mft2 = λ r s n m l. refl;
+      mab = refl;
+      mba = refl;
+      sf32 = λ r ns. refl;
+      sig = λ r n. refl;
+      dtim = λ r d. refl;
+      meas = λ r m. refl;
+      view = λ r v. refl;
+      xyz = λ r ns. refl;
+      cicp = λ r c. refl;
+    }

@@ -1,4 +1,4 @@
--- Conformance to lut16Type and lut8Type as `icc` writes them, both ways.
+-- Conformance to lut16Type and lut8Type, both ways.
 -- Assumes nothing.
 use Prim.Native.Nat.{ℕ, _+_, _*_, _^_, _≤_}
 use native.Mathlib.Omega.{arith}
@@ -12,7 +12,7 @@ use lib.Seq.{length-take-le}
 use borrow.Author.Tests.{eq-eqb}
 use Rattle.icc.specs.Numbers.{be16, be32, each16, each32, Is32, Each32, Bytes}
 use Rattle.icc.specs.Tables.{Matrix, Lut, nine, Sized, Entries16, lut16Type, lut8Type}
-use Rattle.fields.proofs.Written.{read16, length16, words-drop, words-written, words-below, then8, then16, then32, row8, row16, row32, halvesAt, halves-length}
+use Rattle.fields.proofs.Written.{read16, length16, words-drop, words-written, words-below, then8, then16, then32, row8, row16, row32, halvesAt, halves-length, halves-below}
 use Rattle.fields.specs.Bytes.{u16At, u32At, wordsAt}
 use Rattle.fields.specs.Tag.{signatureOf}
 use Rattle.fields.specs.declared.Kind.the-variants.{Mft1, Mft2}
@@ -206,6 +206,7 @@ module _ (limit : ℕ) (t : List ℕ) (b : Bytes t) where
         output-entries = (rw y at (h .output-least), rw y at (h .output-most));
         sized = sized;
         taken = taken a c z w;
+        entries-fit = halves-below t b (52 + 2 * u) v;
         told-is = q ∙ told-fields limit t 2 52 n m (lutOf a c z) s sized;
         matrix-is = refl;
         is = head 0x6D667432 e (omega arith) (then16 t b 48 (omega arith) refl (then16 t b 50 (omega arith) refl (row16 t b u 52 (omega arith) refl (row16 t b v (52 + 2 * u) (omega arith) refl (row16 t b x (52 + 2 * u + 2 * v) end refl refl)) ∙ three (each16 a) (each16 c) (each16 z) r)));

@@ -1,5 +1,5 @@
 pub mod Unique
 pub mod Any
-pub mod Order
 pub mod Shows
 pub mod Cases
+pub mod Conforms

@@ -1,4 +1,4 @@
 pub mod Answer
 pub mod View
-pub mod Order
+pub mod Standard
 pub mod Cases
