@@ -4,4 +4,3 @@ pub mod Second
 pub mod Third
 pub mod Cases
 pub mod ShutOut
-pub mod Written

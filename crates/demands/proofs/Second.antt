@@ -1,42 +1,33 @@
--- Demand 2's proved half, of every library that keeps the contracts: one answer a call, and conformance to the standards' layouts.
+-- Demand 2's proved half, of every library that keeps the contracts: one answer a call, and conformance to what the standards write.
 -- Assumes nothing.
-use Prim.Native.Nat.{ℕ, _+_, _/_, _≤_, _<_, _^_}
+use Prim.Native.Nat.{ℕ, _+_, _*_, _/_, _≤_, _<_, _^_}
 use mathlib.Core.Path.{_≡_, refl, sym, ap, subst, _∙_}
-use mathlib.Core.Bool.{Bool, true, false, _&&_}
 use mathlib.Core.List.{List, _++_}
-use mathlib.Core.Logic.{_⊎_, inl, inr}
-use lib.Dec.{leb, ltb}
+use mathlib.Core.Logic.{_⊎_}
 use lib.ListN.{length}
-use borrow.Author.Tests.{le-ltb}
+use Rattle.icc.specs.Elements.{numbers as numbersIn, ClutAt, no-clut, the-clut}
+use Rattle.icc.specs.Numbers.{Bytes}
+use Rattle.icc.specs.Small.{signatureType, measurementType, viewingConditionsType, cicpType}
 use Rattle.clut_meaning.specs.Table.{Table}
-use Rattle.curve_meaning.specs.Answer.{Answer as Curve·Answer}
-use Rattle.curve_meaning.specs.Shape.{Shape, wordsOf, stepOf, recordWords}
-use Rattle.curve_meaning.specs.Standard.{Laid as CurveLaid, Within as CurveWithin}
 use Rattle.curve_meaning.specs.declared.Walk.{Walk}
-use Rattle.curve_meaning.specs.declared.Walk.the-variants.{Book}
-use Rattle.curve_meaning.proofs.Conforms.{lone-accepted, laid as curve-laid-out}
-use Rattle.curve_meaning.proofs.Inside.{accepted-inside}
+use Rattle.curve_meaning.proofs.Conforms.{lone-read, lone-written}
 use Rattle.curve_meaning.proofs.Unique.{unique as curve-unique}
-use Rattle.run.specs.Run.{Placed}
-use Rattle.mft_meaning.specs.Answer.{Fields, answerOf, toldTable as Mft·toldTable}
-use Rattle.mft_meaning.specs.Standard.{LaidOut as MftLaidOut, Asked as MftAsked}
-use Rattle.lut_meaning.specs.Abm.{toldTable as Abm·toldTable, valueFrom}
-use Rattle.lut_meaning.specs.Answer.{mft, abm, Abm, Answer as Lut·Answer}
-use Rattle.lut_meaning.specs.Layout.{planOf, aCurves, mCurves, bCurves, recordsNeeded}
-use Rattle.lut_meaning.specs.Parts.{curvesOf, runA, runM, runB}
-use Rattle.lut_meaning.specs.Standard.{LaidOut as AbmLaidOut, Asked as AbmAsked}
-use Rattle.lut_meaning.proofs.Accepted.{abm-found}
-use Rattle.lut_meaning.proofs.Conforms.{lone-conforms, conforms-curves, laid as abm-laid-out, mft-conforms, mft-laid as mft-laid-out}
-use Rattle.lut_meaning.proofs.Inside.{mft-inside as mft-in-tag}
+use Rattle.mft_meaning.specs.Answer.{Fields, toldTable as Mft·toldTable}
+use Rattle.mft_meaning.specs.Standard.{told16, told8, Begins16, Begins8}
+use Rattle.lut_meaning.specs.Abm.{toldTable as Abm·toldTable}
+use Rattle.lut_meaning.specs.Answer.{mft, abm, Abm, State, Answer as Lut·Answer}
+use Rattle.lut_meaning.specs.Standard.{told, PartsAs, TagAs, PassesBy}
+use Rattle.lut_meaning.proofs.Conforms.{profile-read, profile-left, profile-parts, profile-written, profile-counts, profile-read16, profile-read8, profile-written-mft}
 use Rattle.lut_meaning.proofs.Unique.{unique as lut-unique}
 use Rattle.small_meaning.specs.Answer.{Answer as Small·Answer}
-use Rattle.small_meaning.specs.Standard.{Accepts, AcceptsOnly}
-use Rattle.small_meaning.proofs.Conforms.{chad-accepts, chad-laid, sig-accepts, sig-laid, date-accepts, date-laid, meas-accepts, meas-laid, view-accepts, view-laid, xyz-accepts, xyz-laid, cicp-accepts, cicp-laid}
+use Rattle.small_meaning.specs.Standard.{signatureTold, someXyzType, firstTold, measurementTold, viewTold, cicpTold, WrittenRead, ReadWritten}
+use Rattle.small_meaning.proofs.Conforms as Small·Conforms
 use Rattle.small_meaning.proofs.Unique.{chad-unique, sig-unique, date-unique, meas-unique, view-unique, xyz-unique, cicp-unique}
-use Rattle.table_meaning.specs.View.{numbersOf, tableBy}
+use Rattle.table_meaning.specs.Standard.{ShowsColours, ShowsClut}
+use Rattle.table_meaning.specs.View.{numbersOf, tableBy, entryOf}
 use Rattle.table_meaning.specs.declared.TableNumbers.{TableNumbers}
 use Rattle.table_meaning.proofs.Any.{invalid-absent}
-use Rattle.table_meaning.proofs.Order.{entries-in-order}
+use Rattle.table_meaning.proofs.Conforms.{abm-colours, wide-colours, narrow-colours}
 use Rattle.table_meaning.proofs.Shows.{Shows as TableShows, abm-shows, mft-shows}
 use Rattle.text_meaning.specs.Answer.{Answer as Text·Answer, span}
 use Rattle.text_meaning.specs.Layout.{asciiEnd, unicodeLanguage}
@@ -46,7 +37,7 @@ use Rattle.text_meaning.proofs.Conforms.{text-conforms, desc-conforms, mluc-con
 use Rattle.text_meaning.proofs.Found.{Value}
 use Rattle.text_meaning.proofs.Unique.{unique as text-unique}
 use Rattle.demands.specs.Readers.{Small, chad, sig, date, meas, view, xyz, cicp, Reader, lut, trc, string, small, Call, SmallResult, smallNumbers, smallOf, Result, Numbers, numbers, meaning, Library, Promised, says}
-use Rattle.demands.specs.Demands.{tag, curveTag, TagInside, CurveAs, AbmSaid, AbmAs, MftSaid, MlucSaid, MlucAs, Layout, Asked, AskedBack, ofTag, Shows, Demand2}
+use Rattle.demands.specs.Demands.{tag, TagInside, bytes, InProfile, reader, shown, MlucSaid, MlucAs, Shows, Demand2}
 
 -- ---- one call, one answer: a result is determined by its numbers
 
@@ -65,95 +56,29 @@ unique (trc walk) = curve-unique
 unique string = text-unique
 unique (small s) = small-unique s
 
--- ---- the small readers
-
-accepts : (s : Small) → Accepts (smallOf s) (Layout s) (Asked s)
-accepts chad = chad-accepts
-accepts sig = sig-accepts
-accepts date = date-accepts
-accepts meas = meas-accepts
-accepts view = view-accepts
-accepts xyz = xyz-accepts
-accepts cicp = cicp-accepts
-
-accepts-only : (s : Small) → AcceptsOnly (smallOf s) (Layout s) (AskedBack s)
-accepts-only chad = chad-laid
-accepts-only sig = sig-laid
-accepts-only date = date-laid
-accepts-only meas = meas-laid
-accepts-only view = view-laid
-accepts-only xyz = xyz-laid
-accepts-only cicp = cicp-laid
-
--- ---- the lone curve
-
--- a size of 0 or from 12 on is not too short
-long-enough : (size : ℕ) → (size ≡ 0) ⊎ (12 ≤ size) → leb 1 size && ltb size 12 ≡ false
-long-enough size (inl e) = rw e refl
-long-enough size (inr l) = rw (le-ltb size 12 l) (by (leb 1 size))
-  where
-    by : (b : Bool) → b && false ≡ false
-    by true = refl
-    by false = refl
-
 module _ (l : Library) (p : Promised l) where
   -- what the meaning of lookup tables says, the library returns
   lut-state : (walk : Walk) (c : Call) → says l (lut walk) c .state ≡ meaning (lut walk) c .state
   lut-state walk c = ap (λ (a : Lut·Answer). a .state) (p .answers (lut walk) c)
 
-  -- ---- curves
-
-  curve-accepted : (walk : Walk) (c : Call) (s : Shape) → c .entry + 4 ≤ length (c .profile) → c .entry + c .size ≤ length (c .profile) → (c .size ≡ 0) ⊎ (12 ≤ c .size) → CurveLaid (curveTag c) s → CurveWithin (c .entries) s → says l (trc walk) c ≡ Curve·Answer.value (wordsOf 12 s) (stepOf walk s)
-  curve-accepted walk c s four whole long laid within =
-      p .answers (trc walk) c ∙ lone-accepted walk (c .entries) (c .profile) (c .entry) (c .size) s four whole (long-enough (c .size) long) laid within
-
-  curve-laid : (walk : Walk) (c : Call) (words : List ℕ) (consumed : ℕ) → says l (trc walk) c ≡ Curve·Answer.value words consumed → CurveAs walk (c .entries) (curveTag c) words consumed
-  curve-laid walk c words consumed h =
-      let i = accepted-inside walk (c .entries) (c .profile) (c .entry) (c .size) words consumed (sym (p .answers (trc walk) c) ∙ h) in
-      let k = curve-laid-out (c .entries) (curveTag c) (i .curve .shape) (i .curve .seen) in
-      record { shape = i .curve .shape; laid = k .0; within = k .1; words-are = i .curve .record-is; consumed-is = i .curve .step-is }
-
   -- ---- lookup tables
 
-  abm-accepted : (c : Call) (table : Table) (a m b : List Placed) → TagInside c → AbmLaidOut (tag c) table a m b → AbmAsked (c .entries) (tag c) table a m b → recordsNeeded (tag c) ≤ length (c .slots) / recordWords → AbmSaid l c table (a ++ m ++ b)
-  unfolding valueFrom
-  abm-accepted c table a m b whole laid asked room =
-      let e = lone-conforms (c .entries) (c .points) (c .profile) (c .entry) (c .size) table a m b whole laid asked (length (c .slots)) room in
-      record { answer-is = p .answers (lut Book) c ∙ e; slots-are = p .leaves-so (lut Book) c ∙ rw (e, conforms-curves (c .entries) (tag c) table a m b laid asked) }
+  module _ (walk : Walk) (c : Call) (b : Bytes (c .profile)) (f : Abm) (h : says l (lut walk) c .state ≡ abm f) (few : 1 ≤ f .size → f .inputs ≤ 16) where
+    abm-written : InProfile c × PartsAs (bytes c) (says l (lut walk) c)
+    abm-written =
+        let w = profile-parts (c .entries) (c .points) (c .profile) b (c .entry) (c .size) walk (length (c .slots)) f (sym (lut-state walk c) ∙ h) few in
+        (w .0, subst (PartsAs (bytes c)) (sym (p .answers (lut walk) c)) (w .1))
 
-  abm-laid : (c : Call) (f : Abm) → says l (lut Book) c .state ≡ abm f → AbmAs l c
-  unfolding valueFrom curvesOf
-  abm-laid c f h =
-      let k = abm-laid-out (c .entries) (c .points) (c .profile) (c .entry) (c .size) (length (c .slots)) f (sym (lut-state Book c) ∙ h) in
-      record {
-        table = k .table;
-        a = runA Book (c .entries) (tag c) (planOf (tag c)) .curves;
-        m = runM Book (c .entries) (tag c) (planOf (tag c)) .curves;
-        b = runB Book (c .entries) (tag c) (planOf (tag c)) .curves;
-        laid = k .laid-out;
-        asked = k .asked;
-        said = record { answer-is = p .answers (lut Book) c ∙ k .answer-is; slots-are = p .leaves-so (lut Book) c ∙ rw (k .answer-is) };
-      }
+    curves-written : PassesBy walk (l .leaves (lut walk) c) (f .a) (f .m) (f .b) → TagAs walk (c .entries) (bytes c) (says l (lut walk) c) (c .slots) (l .leaves (lut walk) c)
+    curves-written pass =
+        let w = profile-written (c .entries) (c .points) (c .profile) b (c .entry) (c .size) walk (length (c .slots)) f (sym (lut-state walk c) ∙ h) few (c .slots) (l .leaves (lut walk) c) refl (sym (p .leaves-so (lut walk) c)) pass in
+        subst (λ (a : Lut·Answer). TagAs walk (c .entries) (bytes c) a (c .slots) (l .leaves (lut walk) c)) (sym (p .answers (lut walk) c)) (w .1)
 
-  abm-counts : (walk : Walk) (c : Call) (f : Abm) → says l (lut walk) c .state ≡ abm f → (f .a ≡ aCurves (tag c)) × (f .m ≡ mCurves (tag c)) × (f .b ≡ bCurves (tag c))
-  unfolding valueFrom
-  abm-counts walk c f h =
-      let w = abm-found walk (c .entries) (c .points) (c .profile) (c .entry) (c .size) (length (c .slots)) f (sym (lut-state walk c) ∙ h) in
-      let e = sym h ∙ lut-state walk c ∙ ap (λ (a : Lut·Answer). a .state) (w .as-abm ∙ w .behind .answer-is) in
-      (cc, cc, cc)
-
-  mft-accepted : (walk : Walk) (c : Call) → TagInside c → MftLaidOut (tag c) → MftAsked (c .points) (tag c) → MftSaid l walk c
-  unfolding answerOf
-  mft-accepted walk c whole laid asked =
-      let e = p .answers (lut walk) c ∙ mft-conforms walk (c .entries) (c .points) (c .profile) (c .entry) (c .size) (length (c .slots)) whole laid asked in
-      record { fields-are = ap (λ (a : Lut·Answer). a .state) e; matrix-is = ap (λ (a : Lut·Answer). a .matrix) e }
-
-  mft-laid : (walk : Walk) (c : Call) (f : Fields) → says l (lut walk) c .state ≡ mft f → MftLaidOut (tag c) × MftAsked (c .points) (tag c) × MftSaid l walk c
-  mft-laid walk c f h =
-      let s : meaning (lut walk) c .state ≡ mft f = sym (lut-state walk c) ∙ h in
-      let k = mft-laid-out walk (c .entries) (c .points) (c .profile) (c .entry) (c .size) (length (c .slots)) f s in
-      let i = mft-in-tag walk (c .entries) (c .points) (c .profile) (c .entry) (c .size) (length (c .slots)) f s in
-      (k .laid, k .asked, mft-accepted walk c (i .0) (k .laid) (k .asked))
+  mft-written : (walk : Walk) (c : Call) → Bytes (c .profile) → (f : Fields) → says l (lut walk) c .state ≡ mft f → let matrix : List ℕ = says l (lut walk) c .matrix in InProfile c × (Begins8 (c .points) (bytes c) f matrix ⊎ Begins16 (c .points) (bytes c) f matrix)
+  mft-written walk c b f h =
+      let e = p .answers (lut walk) c in
+      let w = profile-written-mft (c .entries) (c .points) (c .profile) b (c .entry) (c .size) walk (length (c .slots)) f (sym (lut-state walk c) ∙ h) in
+      (w .0, rw (← e) at (w .1))
 
   -- ---- text
 
@@ -200,28 +125,68 @@ module _ (l : Library) (p : Promised l) where
   mft-shown walk c f low h =
       shows _ _ _ _ (mft-shows walk (c .entries) (c .points) (c .profile) (c .entry) (c .size) (length (c .slots)) low f (sym (lut-state walk c) ∙ h))
 
+  -- its colours
+  shows-colours : (c : Call) (state : State) (grid : List ℕ) (outputs : ℕ) (ns : List ℕ) → ShowsColours (λ point channel. entryOf (bytes c) (tableBy (bytes c) (numbersOf state)) point channel) grid outputs ns → ShowsColours (shown l c state) grid outputs ns
+  shows-colours c state grid outputs ns h colour k point channel i low = p .reads-so (bytes c) (numbersOf state) point channel ∙ h colour k point channel i low
+
+  shows-clut : (c : Call) (state : State) {offset i o : ℕ} (x : ClutAt (bytes c) offset i o) → ShowsClut (λ point channel. entryOf (bytes c) (tableBy (bytes c) (numbersOf state)) point channel) x → ShowsClut (shown l c state) x
+  unfolding ShowsClut
+  shows-clut c state (no-clut e) h = λ point channel. p .reads-so (bytes c) (numbersOf state) point channel ∙ h point channel
+  shows-clut c state {o = o} (the-clut n x s z) h = shows-colours c state (x .grid) o (numbersIn (x .entries)) h
+
+  -- ---- the small readers
+
+  abbrev ofTag : Call → List ℕ → ℕ → ℕ → Call
+  ofTag c q entry size = record { profile = q; entry = entry; size = size; entries = c .entries; points = c .points; slots = c .slots }
+
+  small-read : {A : Type 0} (s : Small) (element : ℕ → A → List ℕ) (tells : A → List ℕ) (Fit : A → Type 0) → WrittenRead (smallOf s) element tells Fit → (c : Call) → WrittenRead (reader l c s) element tells Fit
+  small-read s element tells Fit h c q entry size reserved x rest f i e = p .answers (small s) (ofTag c q entry size) ∙ h q entry size reserved x rest f i e
+
+  small-written : {A : Type 0} (s : Small) (element : ℕ → A → List ℕ) (tells : A → List ℕ) (Asked : List ℕ → ℕ → ℕ → Type 0) → ReadWritten (smallOf s) element tells Asked → (c : Call) → ReadWritten (reader l c s) element tells Asked
+  small-written s element tells Asked h c q entry size ws b a v = h q entry size ws b a (sym (p .answers (small s) (ofTag c q entry size)) ∙ v)
+
   pub demand2 : Demand2 l
   demand2 =
       record {
         promised = p;
         once = λ r c x h. unique r (meaning r c) x (l .returns r c) h (p .answers r c);
-        curve-accepted = curve-accepted;
-        curve-laid = curve-laid;
-        abm-accepted = abm-accepted;
-        abm-laid = abm-laid;
-        abm-counts = abm-counts;
-        mft-accepted = mft-accepted;
-        mft-laid = mft-laid;
+        curve-read = λ walk c x rest f e. p .answers (trc walk) c ∙ lone-read walk (c .entries) (c .profile) (c .entry) (c .size) x rest f e;
+        curve-written = λ walk c b ws consumed h. lone-written walk (c .entries) (c .profile) b (c .entry) (c .size) ws consumed (sym (p .answers (trc walk) c) ∙ h);
+        abm-read =
+            λ walk c x i long f k room.
+            let read = profile-read (c .entries) (c .points) (c .profile) (c .entry) (c .size) (length (c .slots)) i long walk (x .parts) f (x .curves) k room in
+            let leaves = profile-left (c .entries) (c .points) (c .profile) (c .entry) (c .size) (length (c .slots)) i long walk (x .parts) f (x .curves) k room (c .slots) refl in
+            (p .answers (lut walk) c ∙ read, p .leaves-so (lut walk) c ∙ leaves);
+        abm-written = abm-written;
+        curves-written = curves-written;
+        abm-counts = λ walk c f h. profile-counts (c .entries) (c .points) (c .profile) (c .entry) (c .size) walk (length (c .slots)) f (sym (lut-state walk c) ∙ h);
+        wide-read = λ walk c reserved reserved2 n m x rest i long f en em z e. p .answers (lut walk) c ∙ profile-read16 (c .entries) (c .points) (c .profile) (c .entry) (c .size) (length (c .slots)) i long walk reserved reserved2 n m x rest f en em z e;
+        narrow-read = λ walk c reserved reserved2 x rest i long f z e. p .answers (lut walk) c ∙ profile-read8 (c .entries) (c .points) (c .profile) (c .entry) (c .size) (length (c .slots)) i long walk reserved reserved2 x rest f z e;
+        mft-written = mft-written;
         text-accepted = text-accepted;
         text-taken = λ c s h. string-taken c _ tt h .1;
         desc-accepted = desc-accepted;
         desc-taken = λ c s u h. string-taken c _ tt h .1;
         mluc-accepted = mluc-accepted;
         mluc-taken = mluc-taken;
-        small-accepted = λ s c q entry size ws whole asked laid. p .answers (small s) (ofTag c q entry size) ∙ accepts s q entry size ws whole asked laid;
-        small-laid = λ s c q entry size ws asked h. accepts-only s q entry size ws asked (sym (p .answers (small s) (ofTag c q entry size)) ∙ h);
+        chad-read = λ c reserved ns n f i e. p .answers (small chad) c ∙ Small·Conforms.chad-written (c .profile) (c .entry) (c .size) reserved ns n f i e;
+        chad-written = λ c ws b v. Small·Conforms.chad-read (c .profile) (c .entry) (c .size) ws b (sym (p .answers (small chad) c) ∙ v);
+        sig-read = small-read sig signatureType signatureTold _ Small·Conforms.sig-written;
+        sig-written = small-written sig signatureType signatureTold _ Small·Conforms.sig-read;
+        date-read = λ c reserved x y rest i e f. p .answers (small date) c ∙ Small·Conforms.date-written (c .profile) (c .entry) (c .size) reserved x y rest i e f;
+        date-written = λ c ws b v. Small·Conforms.date-read (c .profile) (c .entry) (c .size) ws b (sym (p .answers (small date) c) ∙ v);
+        meas-read = small-read meas measurementType measurementTold _ Small·Conforms.meas-written;
+        meas-written = small-written meas measurementType measurementTold _ Small·Conforms.meas-read;
+        view-read = small-read view viewingConditionsType viewTold _ Small·Conforms.view-written;
+        view-written = small-written view viewingConditionsType viewTold _ Small·Conforms.view-read;
+        xyz-read = small-read xyz someXyzType firstTold _ Small·Conforms.xyz-written;
+        xyz-written = small-written xyz someXyzType firstTold _ Small·Conforms.xyz-read;
+        cicp-read = small-read cicp cicpType cicpTold _ Small·Conforms.cicp-written;
+        cicp-written = small-written cicp cicpType cicpTold _ Small·Conforms.cicp-read;
         abm-shown = abm-shown;
         mft-shown = mft-shown;
+        abm-in-order = λ walk c x low long f e. shows-clut c (told x .state) (x .clut) (abm-colours walk (c .entries) (c .points) (c .profile) (c .entry) (c .size) (length (c .slots)) low long x f (sym (p .answers (lut walk) c) ∙ e));
+        wide-in-order = λ walk c reserved reserved2 n m x rest low long z fits e h. shows-colours c (mft (told16 n m x)) _ _ _ (wide-colours walk (c .entries) (c .points) (c .profile) (c .entry) (c .size) (length (c .slots)) low long reserved reserved2 n m x rest z fits e (sym (lut-state walk c) ∙ h));
+        narrow-in-order = λ walk c reserved reserved2 x rest low long z e h. shows-colours c (mft (told8 x)) _ _ _ (narrow-colours walk (c .entries) (c .points) (c .profile) (c .entry) (c .size) (length (c .slots)) low long reserved reserved2 x rest z e (sym (lut-state walk c) ∙ h));
         not-shown = λ t n index channel h. p .reads-so t n index channel ∙ invalid-absent t (tableBy t n) index channel h;
-        in-order = λ table xs ys x y v w b. entries-in-order table xs ys (v .0) (w .0) b x y (v .1);
       }

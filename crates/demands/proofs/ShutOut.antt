@@ -1,48 +1,47 @@
 -- The wrong readers break a demand, each by one small call: an empty curve, a table of two entries, an `XYZ ` tag, and the `mAB ` tag of the
 -- worked cases.
 -- Assumes nothing.
-use Prim.Native.Nat.{ℕ}
+use Prim.Native.Nat.{ℕ, _*_}
 use native.Mathlib.Omega.{arith}
 use mathlib.Core.Path.{_≡_, refl, ap, _∙_}
-use mathlib.Core.List.{List, [], _∷_}
-use mathlib.Core.Logic.{inl, inr}
-use lib.ListN.{getD, replicate}
-use Rattle.fields.specs.Bytes.{wordsAt}
+use mathlib.Core.List.{List, [], _∷_, _++_}
+use mathlib.Core.Logic.{inl}
+use lib.ListN.{length, getD, drop, replicate}
+use Rattle.icc.specs.Curves.{sampled, parametric, curveElement, curveType, parametricCurveType, type0, encoded, parameters, Defined}
+use Rattle.icc.specs.Elements.{Stands, aToB, Head, headElement, PlacedCurve, CurvesFrom, no-curves, some-curves, no-matrix, no-clut, LutParts, LutCurves}
+use Rattle.icc.specs.Numbers.{each16, each32, Each32, NextMultipleOf4}
+use Rattle.icc.specs.Small.{eachXyz, xyzType}
 use Rattle.fields.specs.Tag.{signatureOf}
 use Rattle.curve_meaning.specs.Cases.{none, two}
-use Rattle.clut_meaning.specs.Table.{product}
-use Rattle.curve_meaning.specs.Curve.{divides}
-use Rattle.curve_meaning.specs.Layout.{parameterCount}
-use Rattle.curve_meaning.specs.Shape.{empty, table, para, sizeOf, wordsOf}
-use Rattle.curve_meaning.specs.Standard.{Laid, Within}
+use Rattle.curve_meaning.specs.Standard.{Fits, toldOf, Tag}
 use Rattle.curve_meaning.specs.declared.Walk.the-variants.{Crate, Book}
-use Rattle.run.specs.Run.{Placed, placed, raised, recordsOf, Each}
-use Rattle.lut_meaning.specs.Abm.{noTable, valueFrom}
+use Rattle.run.specs.Run.{Each}
+use Rattle.run.specs.Standard.{Passes, recordsTold}
 use Rattle.lut_meaning.specs.Answer.{State, mft, abm, absent as State·absent, refused as State·refused, stateFrom, Answer as Lut·Answer}
-use Rattle.lut_meaning.specs.declared.LutAnswer.{LutAnswer}
-use Rattle.small_meaning.specs.Layout.{firstXyz}
 use Rattle.lut_meaning.specs.Cases.{tag as threeCurves, slots}
 use Rattle.lut_meaning.specs.Layout.{present, deviceChannels, spaceChannels, aCurves, mCurves, bCurves, recordsNeeded}
-use Rattle.lut_meaning.specs.Standard.{LaidOut, Asked, Row}
-use Rattle.lut_meaning.proofs.Conforms.{conforms-curves}
-use Rattle.demands.specs.Readers.{lut, xyz, Call, Library, Promised}
-use Rattle.demands.specs.Demands.{tag, Demand1, Demand2, AbmSaid}
+use Rattle.lut_meaning.specs.Standard.{MatrixTaken, ClutFits, told, recordsWritten, PartsTaken, CurvesTaken}
+use Rattle.lut_meaning.specs.declared.LutAnswer.{LutAnswer}
+use Rattle.lut_meaning.proofs.Conforms.{written-records}
+use Rattle.small_meaning.specs.Standard.{SomeXyz}
+use Rattle.demands.specs.Readers.{lut, Call, Library, Promised, says}
+use Rattle.demands.specs.Demands.{Demand1, Demand2}
 use Rattle.demands.specs.Cases.{Holds, call, lone}
 use Rattle.demands.specs.Wrong.{refusesAll, alwaysDefault, alwaysIdentity, unwritten, copied, madeUp, tooEarly, copies, oneCurve, ShutOut}
 use Rattle.demands.proofs.Cases.{claim}
 use Rattle.demands.proofs.Ends.{ends-so}
 
 refuses-all : (l : Library) → Demand2 (refusesAll l) → ⊥
-unfolding Laid Within signatureOf
+unfolding Fits Tag curveElement curveType each16
 refuses-all l d =
-    let e = d .curve-accepted Crate (lone none 12) empty (omega arith) (omega arith) (inr (omega arith)) record { signature = refl; count = refl; whole = omega arith } tt in
+    let e = d .curve-read Crate (lone none 12) (sampled 0 []) [] (omega arith, omega arith) (refl, omega arith) in
     let z : _≡_ {A = ℕ} 0 1 = cc in
     omega arith
 
 always-identity : (l : Library) → Demand2 (alwaysIdentity l) → ⊥
-unfolding Laid Within signatureOf wordsOf
+unfolding Fits Tag curveElement curveType each16 toldOf
 always-identity l d =
-    let e = d .curve-accepted Crate (lone two 16) (table 2) (omega arith) (omega arith) (inr (omega arith)) (omega arith, record { signature = refl; count = refl; whole = omega arith }) (omega arith) in
+    let e = d .curve-read Crate (lone two 16) (sampled 0 (0 ∷ 65535 ∷ [])) [] (omega arith, omega arith) (refl, omega arith) in
     let z : _≡_ {A = ℕ} 0 1 = cc in
     omega arith
 
@@ -51,81 +50,114 @@ abbrev black : List ℕ
 black = 0x58 ∷ 0x59 ∷ 0x5a ∷ 0x20 ∷ replicate 16 0
 
 always-default : (l : Library) → Demand2 (alwaysDefault l) → ⊥
-unfolding signatureOf firstXyz wordsAt
+unfolding Each32 xyzType eachXyz
 always-default l d =
-    let e = d .small-accepted xyz (lone [] 0) black 0 20 (0 ∷ 0 ∷ 0 ∷ []) (omega arith) tt record { signature = refl; whole = omega arith; given = refl } in
+    let x : SomeXyz = record { first = record { X = 0; Y = 0; Z = 0 }; others = [] } in
+    let e = d .xyz-read (lone [] 0) black 0 20 0 x [] (omega arith, (omega arith, (omega arith, tt))) (omega arith) refl in
     let z : _≡_ {A = ℕ} 0 1 = cc in
     omega arith
 
 -- ---- the `mAB ` tag of the worked cases, with its three curves
 
-abbrev curves : List Placed
-curves = placed 32 empty ∷ placed 44 empty ∷ placed 56 (para 0 (65536 ∷ [])) ∷ []
-
-laid : LaidOut threeCurves noTable [] [] curves
-unfolding Row Laid signatureOf present deviceChannels spaceChannels aCurves mCurves bCurves raised sizeOf parameterCount wordsAt
-laid =
+abbrev head : Head
+head =
     record {
-      type-is = inl refl;
-      matrix = inl refl;
-      clut = inl record { not-there = refl; none = refl };
-      a-row = tt;
-      a-count = refl;
-      m-row = tt;
-      m-count = refl;
-      b-row = (
-        refl,
-        record { signature = refl; count = refl; whole = omega arith },
-        (
-          refl,
-          record { signature = refl; count = refl; whole = omega arith },
-          (refl, record { signature = refl; function = refl; known = omega arith; given = refl; whole = omega arith }, tt),
-        ),
-      );
-      b-count = refl;
+      direction = aToB;
+      reserved = 0;
+      inputChannels = 3;
+      outputChannels = 3;
+      reserved2 = 0;
+      offsetB = 32;
+      offsetMatrix = 0;
+      offsetM = 0;
+      offsetClut = 0;
+      offsetA = 0;
     }
 
-asked : Asked 4096 threeCurves noTable [] [] curves
-unfolding Each Within divides
-asked =
+begins : Stands threeCurves 0 (headElement head)
+unfolding headElement
+begins = record { behind = drop 32 threeCurves; is = refl }
+
+abbrev parts : LutParts threeCurves
+parts = record { head = head; begins = begins; matrix = no-matrix refl; clut = no-clut refl }
+
+abbrev three : List PlacedCurve
+three =
+    record { offset = 32; curve = sampled 0 [] } ∷
+    record { offset = 44; curve = sampled 0 [] } ∷
+    record { offset = 56; curve = parametric 0 0 (type0 65536) } ∷
+    []
+
+-- a multiple of 4 is its own next
+own-next : (k : ℕ) → NextMultipleOf4 (4 * k) (4 * k)
+own-next k = record { quarter = k; multiple = refl; not-below = omega arith; least = λ j h. h }
+
+stand : CurvesFrom threeCurves 32 three
+unfolding CurvesFrom curveElement curveType parametricCurveType encoded parameters each16 each32
+stand =
+    (refl, record { behind = drop 44 threeCurves; is = refl }, (44, own-next 11, (refl, record { behind = drop 56 threeCurves; is = refl }, (56, own-next 14, (refl, record { behind = []; is = refl }, (72, own-next 18, tt))))))
+
+abbrev curves : LutCurves threeCurves head
+curves =
+    record { a = []; m = []; b = three; a-set = no-curves refl refl; m-set = no-curves refl refl; b-set = some-curves (λ e. omega (arith, e)) refl stand }
+
+parts-taken : PartsTaken parts
+unfolding MatrixTaken ClutFits
+parts-taken =
     record {
-      long = omega arith;
-      few-channels = refl;
-      table-within = λ there. absurd (there refl);
-      a-kept = tt;
-      m-kept = tt;
-      b-kept = (tt, (tt, ((λ e. let z : _≡_ {A = ℕ} 0 1 = cc in absurd (omega arith)), tt)));
+      few-channels = inl (omega arith);
+      b-offset = omega arith;
+      matrix-offset = omega arith;
+      m-offset = omega arith;
+      clut-offset = omega arith;
+      a-offset = omega arith;
+      matrix-fits = tt;
+      clut-fits = tt;
     }
 
--- how each library must answer it
-three-said : (l : Library) → Demand2 l → AbmSaid l (call threeCurves 72 (slots 3)) noTable curves
-unfolding recordsNeeded present deviceChannels spaceChannels aCurves mCurves bCurves signatureOf
-three-said l d =
+curves-taken : CurvesTaken Book 4096 curves
+unfolding Each Fits Passes Each32 parameters Defined
+curves-taken =
+    record {
+      a-fit = tt;
+      m-fit = tt;
+      b-fit = ((omega arith, omega arith), ((omega arith, omega arith), (((omega arith, tt), tt), tt)));
+      a-passes = tt;
+      m-passes = tt;
+      b-passes = tt;
+    }
+
+-- how each library must answer it, and what it must leave
+abbrev Said : Library → Type 0
+Said l =
     let c : Call = call threeCurves 72 (slots 3) in
-    let three : recordsNeeded (tag c) ≡ 3 = refl in
-    d .abm-accepted c noTable [] [] curves (omega arith) laid asked (omega (arith, three))
+    let records : List ℕ = recordsWritten curves in
+    (says l (lut Book) c ≡ told parts) × (l .leaves (lut Book) c ≡ records ++ drop (length records) (c .slots))
+
+three-said : (l : Library) → Demand2 l → Said l
+three-said l d =
+    d .abm-read Book (call threeCurves 72 (slots 3)) record { parts = parts; curves = curves } (omega arith) (omega arith) parts-taken curves-taken (omega arith)
 
 -- the first word would be a 7 that was lent
 slots-unwritten : (l : Library) → Demand2 (unwritten l) → ⊥
-unfolding recordsOf wordsOf
+unfolding recordsTold toldOf
 slots-unwritten l d =
-    let e : _≡_ {A = ℕ} 7 0 = ap (λ (ws : List ℕ). getD ws 0 0) (three-said (unwritten l) d .slots-are) in
+    let e : _≡_ {A = ℕ} 7 0 = ap (λ (ws : List ℕ). getD ws 0 0) (three-said (unwritten l) d .1) in
     omega (arith, e)
 
 -- the second record would start where the first does
 first-copied : (l : Library) → Demand2 (copied l) → ⊥
-unfolding copies recordsNeeded present deviceChannels spaceChannels aCurves mCurves bCurves recordsOf wordsOf signatureOf
+unfolding copies recordsNeeded present deviceChannels spaceChannels aCurves mCurves bCurves recordsTold toldOf signatureOf
 first-copied l d =
-    let read = conforms-curves 4096 threeCurves noTable [] [] curves laid asked in
-    let e : _≡_ {A = ℕ} 44 56 = ap (λ (ws : List ℕ). getD ws 11 0) (simp read at (three-said (copied l) d .slots-are)) in
+    let read = written-records threeCurves parts parts-taken Book 4096 curves curves-taken in
+    let e : _≡_ {A = ℕ} 44 56 = ap (λ (ws : List ℕ). getD ws 11 0) (simp read at (three-said (copied l) d .1)) in
     omega (arith, e)
 
 -- one B curve would be three
 count-made-up : (l : Library) → Demand2 (madeUp l) → ⊥
-unfolding valueFrom bCurves present spaceChannels signatureOf product
 count-made-up l d =
     let c : Call = call threeCurves 72 (slots 3) in
-    by (l .returns (lut Book) c .answer) (ap (λ (a : Lut·Answer). a .state) (three-said (madeUp l) d .answer-is))
+    by (l .returns (lut Book) c .answer) (ap (λ (a : Lut·Answer). a .state) (three-said (madeUp l) d .0))
   where
     curvesIn : State → ℕ
     curvesIn (abm f) = f .b
@@ -133,7 +165,7 @@ count-made-up l d =
     curvesIn State·absent = 0
     curvesIn (State·refused n) = 0
 
-    by : (a : LutAnswer) → stateFrom (oneCurve a) ≡ valueFrom (tag (call threeCurves 72 (slots 3))) 0 0 0 .state → ⊥
+    by : (a : LutAnswer) → stateFrom (oneCurve a) ≡ told parts .state → ⊥
     by (LutAnswer.Mft t) e = let z : _≡_ {A = ℕ} 0 3 = ap curvesIn e in omega (arith, z)
     by (LutAnswer.Abm t) e = let z : _≡_ {A = ℕ} 1 3 = ap curvesIn e in omega (arith, z)
     by LutAnswer.Absent e = let z : _≡_ {A = ℕ} 0 3 = ap curvesIn e in omega (arith, z)
@@ -141,11 +173,11 @@ count-made-up l d =
 
 -- with two slots the call is refused, and the first word would be that of a record
 written-too-early : (l : Library) → Promised l → Demand1 (tooEarly l) → ⊥
-unfolding recordsOf wordsOf Each Holds
+unfolding recordsTold toldOf Each Holds
 written-too-early l p d =
     let c : Call = call threeCurves 72 (slots 2) in
     let refused-14 = ends-so l p (lut Book) c ∙ claim .1 .1 .1 .1 .1 .1 .1 .1 .1 .1 .1 .1 .1 .1 .0 .0 in
-    let read = conforms-curves 4096 threeCurves noTable [] [] curves laid asked in
+    let read = written-records threeCurves parts parts-taken Book 4096 curves curves-taken in
     let e : _≡_ {A = ℕ} 0 7 = ap (λ (ws : List ℕ). getD ws 0 0) (simp read at (d .refusal-leaves-slots (lut Book) c 14 refused-14)) in
     omega (arith, e)
 

@@ -6,32 +6,34 @@ use mathlib.Core.Bool.{Bool, true, false, cond, _&&_}
 use mathlib.Core.List.{List, [], _++_}
 use mathlib.Core.Logic.{_⊎_}
 use lib.Dec.{ltb}
-use lib.ListN.{length, getD, drop}
+use lib.ListN.{length, getD, take, drop, replicate}
+use Rattle.icc.specs.Curves.{Curve, curveElement}
+use Rattle.icc.specs.Elements.{LutParts, LutTag}
+use Rattle.icc.specs.Numbers.{Is32, Each16, Each32, Bytes}
+use Rattle.icc.specs.Small.{DateTime, dateTimeNumber, s15Fixed16ArrayType, signatureType, dateTimeType, measurementType, viewingConditionsType, cicpType}
+use Rattle.icc.specs.Tables.{Lut, nine, Sized, Entries16, lut16Type, lut8Type}
 use Rattle.fields.specs.Place.{tagAt, countedSize}
-use Rattle.fields.specs.declared.Kind.the-variants.{Sig, Dtim, Meas, View, Xyz, Cicp}
-use Rattle.clut_meaning.specs.Table.{Table, inGrid, numberOf, lengthOf}
+use Rattle.clut_meaning.specs.Table.{Table, inGrid, numberOf}
 use Rattle.curve_meaning.specs.Answer.{Answer as Curve·Answer}
 use Rattle.curve_meaning.specs.Curve.{tagOf as Curve·tagOf}
-use Rattle.curve_meaning.specs.Shape.{Shape, wordsOf, stepOf, recordWords}
-use Rattle.curve_meaning.specs.Standard.{Laid as CurveLaid, Within as CurveWithin}
+use Rattle.curve_meaning.specs.Shape.{recordWords}
+use Rattle.curve_meaning.specs.Standard.{Fits, toldOf, stepTold, Tag, Lone}
 use Rattle.curve_meaning.specs.declared.Walk.{Walk}
-use Rattle.curve_meaning.specs.declared.Walk.the-variants.{Book}
-use Rattle.run.specs.Run.{Placed, recordsOf, dataEnd}
-use Rattle.mft_meaning.specs.Answer.{Fields, fieldsOf, toldTable as Mft·toldTable}
-use Rattle.mft_meaning.specs.Layout.{matrixOf as Mft·matrixOf}
-use Rattle.mft_meaning.specs.Standard.{LaidOut as MftLaidOut, Asked as MftAsked}
-use Rattle.lut_meaning.specs.Abm.{toldTable as Abm·toldTable, valueFrom}
-use Rattle.lut_meaning.specs.Answer.{mft, abm, Abm}
-use Rattle.lut_meaning.specs.Layout.{matrixOffset, aCurves, mCurves, bCurves, recordsNeeded}
-use Rattle.lut_meaning.specs.Standard.{LaidOut as AbmLaidOut, Asked as AbmAsked}
+use Rattle.run.specs.Run.{dataEnd}
+use Rattle.mft_meaning.specs.Answer.{Fields, toldTable as Mft·toldTable}
+use Rattle.mft_meaning.specs.Standard.{told16, told8, Taken as MftTaken, Begins16, Begins8}
+use Rattle.lut_meaning.specs.Abm.{toldTable as Abm·toldTable}
+use Rattle.lut_meaning.specs.Answer.{mft, abm, Abm, State}
+use Rattle.lut_meaning.specs.Layout.{matrixOffset}
+use Rattle.lut_meaning.specs.Standard.{Counts, told, recordsWritten, PartsTaken, CurvesTaken, PartsAs, TagAs, PassesBy}
 use Rattle.text_meaning.specs.Answer.{Answer as Text·Answer, Span, span, Unicode}
 use Rattle.text_meaning.specs.Layout.{textStart, asciiStart, asciiEnd, unicodeLanguage}
 use Rattle.text_meaning.specs.Mluc.{Localized, recordWords as textWords, wordsIn}
 use Rattle.text_meaning.specs.Standard.{TextType, TextDescriptionType, MultiLocalizedUnicodeType, TextTaken, DescriptionTaken, RecordsTaken, unicodeRange}
-use Rattle.small_meaning.specs.Layout.{signatureIn, dateBytes, measurement, conditions, firstXyz, codePoints}
-use Rattle.small_meaning.specs.Standard.{Laid, LaidNine, Always, InProfile, Whole36, SameDate, Accepts, AcceptsOnly}
+use Rattle.small_meaning.specs.Answer.{Answer as Small·Answer}
+use Rattle.small_meaning.specs.Standard.{signatureTold, someXyzType, firstTold, measurementTold, viewTold, cicpTold, WrittenRead, ReadWritten, BeginsNine, BeginsDate}
 use Rattle.table_meaning.specs.Answer.{Told, paper as Table·paper}
-use Rattle.table_meaning.specs.Order.{Before}
+use Rattle.table_meaning.specs.Standard.{ShowsColours, ShowsClut}
 use Rattle.table_meaning.specs.View.{numbersOf, tableBy, storedAt}
 use Rattle.table_meaning.specs.declared.TableNumbers.{TableNumbers}
 use Rattle.demands.specs.Readers.{Small, chad, sig, date, meas, view, xyz, cicp, Reader, lut, trc, string, small, Call, Result, numbers, meaning, Outcome, value, default, absent, refused, Library, ends, Promised, says}
@@ -115,32 +117,12 @@ pub record Demand1 (l : Library) : Type 0 where
 
 -- ---- demand 2, its proved half
 
--- a curve answered as it is laid out
-pub record CurveAs (walk : Walk) (limit : ℕ) (t words : List ℕ) (consumed : ℕ) : Type 0 where
-  pub shape : Shape
-  pub laid : CurveLaid t shape
-  pub within : CurveWithin limit shape
-  pub words-are : words ≡ wordsOf 12 shape
-  pub consumed-is : consumed ≡ stepOf walk shape
+-- the tag's own bytes, and that they lie in the profile
+abbrev pub bytes : Call → List ℕ
+bytes c = take (c .size) (drop (c .entry) (c .profile))
 
--- an `mAB ` or `mBA ` that has this colour table and these curves is answered so, and its records stand in front of the slots
-pub record AbmSaid (l : Library) (c : Call) (table : Table) (curves : List Placed) : Type 0 where
-  pub answer-is : says l (lut Book) c ≡ valueFrom (tag c) (table .start) (lengthOf table) (table .size)
-  pub slots-are : l .leaves (lut Book) c ≡ recordsOf curves ++ drop (length (recordsOf curves)) (c .slots)
-
-pub record AbmAs (l : Library) (c : Call) : Type 0 where
-  pub table : Table
-  pub a : List Placed
-  pub m : List Placed
-  pub b : List Placed
-  pub laid : AbmLaidOut (tag c) table a m b
-  pub asked : AbmAsked (c .entries) (tag c) table a m b
-  pub said : AbmSaid l c table (a ++ m ++ b)
-
--- an `mft1` or `mft2` is answered as its tag has it
-pub record MftSaid (l : Library) (walk : Walk) (c : Call) : Type 0 where
-  pub fields-are : says l (lut walk) c .state ≡ mft (fieldsOf (tag c))
-  pub matrix-is : says l (lut walk) c .matrix ≡ Mft·matrixOf (tag c)
+abbrev pub InProfile : Call → Type 0
+InProfile c = c .entry + c .size ≤ length (c .profile)
 
 -- `mluc` is answered with these records
 pub record MlucSaid (l : Library) (c : Call) (rs : List Localized) : Type 0 where
@@ -152,40 +134,13 @@ pub record MlucAs (l : Library) (c : Call) : Type 0 where
   pub taken : RecordsTaken (tag c) records
   pub said : MlucSaid l c records
 
--- the types of the small readers: s15Fixed16ArrayType of nine numbers, signatureType, dateTimeType, measurementType, viewingConditionsType,
--- XYZType, cicpType
-abbrev pub Layout : Small → List ℕ → List ℕ → Type 0
-Layout chad = LaidNine
-Layout sig = Laid Sig 12 signatureIn
-Layout date = Laid Dtim 20 dateBytes
-Layout meas = Laid Meas 36 measurement
-Layout view = Laid View 36 conditions
-Layout xyz = Laid Xyz 20 firstXyz
-Layout cicp = Laid Cicp 12 codePoints
+-- a small reader, under whatever limits and slots
+abbrev pub reader : Library → Call → Small → List ℕ → ℕ → ℕ → Small·Answer
+reader l c s p entry size = says l (small s) record { profile = p; entry = entry; size = size; entries = c .entries; points = c .points; slots = c .slots }
 
--- what is asked besides, for a tag that is laid out so to be accepted, and for one that is accepted to be laid out so
-abbrev pub Asked : Small → List ℕ → ℕ → ℕ → Type 0
-Asked chad = Always
-Asked sig = Always
-Asked date = SameDate
-Asked meas = Always
-Asked view = Always
-Asked xyz = Always
-Asked cicp = Always
-
-abbrev pub AskedBack : Small → List ℕ → ℕ → ℕ → Type 0
-AskedBack chad = Always
-AskedBack sig = Always
-AskedBack date = SameDate
-AskedBack meas = Whole36
-AskedBack view = InProfile
-AskedBack xyz = Always
-AskedBack cicp = Always
-
--- a call of the same limits and slots, with another tag
-abbrev pub ofTag : Call → List ℕ → ℕ → ℕ → Call
-ofTag c profile entry size =
-    record { profile = profile; entry = entry; size = size; entries = c .entries; points = c .points; slots = c .slots }
+-- what a view by the numbers of an answer shows
+abbrev pub shown : Library → Call → State → List ℕ → ℕ → Told
+shown l c state point channel = Table·paper (l .reads (bytes c) (numbersOf state) point channel)
 
 -- a valid index of a view reads the entry of the table, and it stands inside so many bytes from the table's start on
 abbrev pub Shows : Library → List ℕ → TableNumbers → Table → ℕ → Type 0
@@ -194,23 +149,26 @@ Shows l t n table bytes =
     → (Table·paper (l .reads t n index channel) ≡ Told.value (storedAt t (table .start + numberOf table index channel * table .size) (table .size)))
     × (numberOf table index channel * table .size + table .size ≤ bytes)
 
--- answers are those of the definitions, and these conform to the standards' layouts, both ways. What the conditions ask of a tag besides is
--- listed in docs/DIFFERENCES.md
+-- answers are those of the definitions, and these conform to the standards, both ways: what the standard writes (crate `icc`) is answered with
+-- what was written, and what is answered is what the standard writes. The conditions are entries of docs/DIFFERENCES.md
 pub record Demand2 (l : Library) : Type 0 where
   pub promised : Promised l
   -- one call, one answer
   pub once : (r : Reader) (c : Call) (x : Result r) → numbers r x ≡ meaning r c → x ≡ l .returns r c
   -- curveType and parametricCurveType
-  pub curve-accepted : (walk : Walk) (c : Call) (s : Shape) → c .entry + 4 ≤ length (c .profile) → c .entry + c .size ≤ length (c .profile) → (c .size ≡ 0) ⊎ (12 ≤ c .size) → CurveLaid (curveTag c) s → CurveWithin (c .entries) s → says l (trc walk) c ≡ Curve·Answer.value (wordsOf 12 s) (stepOf walk s)
-  pub curve-laid : (walk : Walk) (c : Call) (words : List ℕ) (consumed : ℕ) → says l (trc walk) c ≡ Curve·Answer.value words consumed → CurveAs walk (c .entries) (curveTag c) words consumed
-  -- lutAToBType and lutBToAType, on the book walk
-  pub abm-accepted : (c : Call) (table : Table) (a m b : List Placed) → TagInside c → AbmLaidOut (tag c) table a m b → AbmAsked (c .entries) (tag c) table a m b → recordsNeeded (tag c) ≤ length (c .slots) / recordWords → AbmSaid l c table (a ++ m ++ b)
-  pub abm-laid : (c : Call) (f : Abm) → says l (lut Book) c .state ≡ abm f → AbmAs l c
-  -- on either walk the number of records is the channels of the runs that are there
-  pub abm-counts : (walk : Walk) (c : Call) (f : Abm) → says l (lut walk) c .state ≡ abm f → (f .a ≡ aCurves (tag c)) × (f .m ≡ mCurves (tag c)) × (f .b ≡ bCurves (tag c))
-  -- lut8Type and lut16Type
-  pub mft-accepted : (walk : Walk) (c : Call) → TagInside c → MftLaidOut (tag c) → MftAsked (c .points) (tag c) → MftSaid l walk c
-  pub mft-laid : (walk : Walk) (c : Call) (f : Fields) → says l (lut walk) c .state ≡ mft f → MftLaidOut (tag c) × MftAsked (c .points) (tag c) × MftSaid l walk c
+  pub curve-read : (walk : Walk) (c : Call) (x : Curve) (rest : List ℕ) → Fits (c .entries) x → Tag (c .profile) (c .entry) (c .size) (curveElement x ++ rest) → says l (trc walk) c ≡ Curve·Answer.value (toldOf 12 x) (stepTold walk x)
+  pub curve-written : (walk : Walk) (c : Call) → Bytes (c .profile) → (ws : List ℕ) (consumed : ℕ) → says l (trc walk) c ≡ Curve·Answer.value ws consumed → Lone walk (c .entries) (c .profile) (c .entry) (c .size) ws consumed
+  -- lutAToBType and lutBToAType: the answer, and the records in the slots. The crate walk goes as the standard lays curves out where none but a
+  -- run's last is empty (`CurvesTaken`, `PassesBy`); all else is as it is written on either walk
+  pub abm-read : (walk : Walk) (c : Call) (x : LutTag (bytes c)) → InProfile c → 48 ≤ c .size → PartsTaken (x .parts) → CurvesTaken walk (c .entries) (x .curves) → (length (x .curves .a) + length (x .curves .m) + length (x .curves .b)) * 10 ≤ length (c .slots) → let records : List ℕ = recordsWritten (x .curves) in (says l (lut walk) c ≡ told (x .parts)) × (l .leaves (lut walk) c ≡ records ++ drop (length records) (c .slots))
+  pub abm-written : (walk : Walk) (c : Call) → Bytes (c .profile) → (f : Abm) → says l (lut walk) c .state ≡ abm f → (1 ≤ f .size → f .inputs ≤ 16) → InProfile c × PartsAs (bytes c) (says l (lut walk) c)
+  pub curves-written : (walk : Walk) (c : Call) → Bytes (c .profile) → (f : Abm) → says l (lut walk) c .state ≡ abm f → (1 ≤ f .size → f .inputs ≤ 16) → PassesBy walk (l .leaves (lut walk) c) (f .a) (f .m) (f .b) → TagAs walk (c .entries) (bytes c) (says l (lut walk) c) (c .slots) (l .leaves (lut walk) c)
+  -- the number of records is the channels of the runs that are there
+  pub abm-counts : (walk : Walk) (c : Call) (f : Abm) → says l (lut walk) c .state ≡ abm f → Counts (bytes c) f
+  -- lut16Type and lut8Type
+  pub wide-read : (walk : Walk) (c : Call) (reserved reserved2 n m : ℕ) (x : Lut) (rest : List ℕ) → InProfile c → 48 ≤ c .size → MftTaken (c .points) x → Entries16 n → Entries16 m → Sized n m x → bytes c ≡ lut16Type reserved reserved2 n m x ++ rest → says l (lut walk) c ≡ record { state = mft (told16 n m x); grid = replicate 16 0; matrix = nine (x .matrix); bias = replicate 3 0 }
+  pub narrow-read : (walk : Walk) (c : Call) (reserved reserved2 : ℕ) (x : Lut) (rest : List ℕ) → InProfile c → 48 ≤ c .size → MftTaken (c .points) x → Sized 256 256 x → bytes c ≡ lut8Type reserved reserved2 x ++ rest → says l (lut walk) c ≡ record { state = mft (told8 x); grid = replicate 16 0; matrix = nine (x .matrix); bias = replicate 3 0 }
+  pub mft-written : (walk : Walk) (c : Call) → Bytes (c .profile) → (f : Fields) → says l (lut walk) c .state ≡ mft f → let matrix : List ℕ = says l (lut walk) c .matrix in InProfile c × (Begins8 (c .points) (bytes c) f matrix ⊎ Begins16 (c .points) (bytes c) f matrix)
   -- textType, textDescriptionType and multiLocalizedUnicodeType; what is taken besides stands in text_meaning/specs/Standard.antt
   pub text-accepted : (c : Call) (n : ℕ) → TagInside c → TextType (tag c) n → says l string c ≡ Text·Answer.text (span textStart n)
   pub text-taken : (c : Call) (s : Span) → says l string c ≡ Text·Answer.text s → TextTaken (tag c) s
@@ -218,15 +176,30 @@ pub record Demand2 (l : Library) : Type 0 where
   pub desc-taken : (c : Call) (s : Span) (u : Unicode) → says l string c ≡ Text·Answer.desc s u → DescriptionTaken (tag c) s u
   pub mluc-accepted : (c : Call) (rs : List Localized) → TagInside c → MultiLocalizedUnicodeType (tag c) rs → length rs ≤ length (c .slots) / textWords → MlucSaid l c rs
   pub mluc-taken : (c : Call) (n : ℕ) → says l string c ≡ Text·Answer.mluc n → MlucAs l c
-  -- the types of the small readers
-  pub small-accepted : (s : Small) (c : Call) → Accepts (λ p entry size. says l (small s) (ofTag c p entry size)) (Layout s) (Asked s)
-  pub small-laid : (s : Small) (c : Call) → AcceptsOnly (λ p entry size. says l (small s) (ofTag c p entry size)) (Layout s) (AskedBack s)
+  -- the types of the small readers; of an XYZType the first number is answered, and of a date the one at the front of the profile
+  pub chad-read : (c : Call) (reserved : ℕ) (ns : List ℕ) → length ns ≡ 9 → Each32 ns → InProfile c → bytes c ≡ s15Fixed16ArrayType reserved ns → says l (small chad) c ≡ Small·Answer.value ns
+  pub chad-written : (c : Call) (ws : List ℕ) → Bytes (c .profile) → says l (small chad) c ≡ Small·Answer.value ws → BeginsNine (c .profile) (c .entry) (c .size) ws
+  pub sig-read : (c : Call) → WrittenRead (reader l c sig) signatureType signatureTold Is32
+  pub sig-written : (c : Call) → ReadWritten (reader l c sig) signatureType signatureTold (λ p entry size. Unit)
+  pub date-read : (c : Call) (reserved : ℕ) (in-tag in-front : DateTime) (rest : List ℕ) → InProfile c → bytes c ≡ dateTimeType reserved in-tag ++ rest → drop 8 (take 20 (c .profile)) ≡ dateTimeNumber in-front → says l (small date) c ≡ Small·Answer.value (dateTimeNumber in-front)
+  pub date-written : (c : Call) (ws : List ℕ) → Bytes (c .profile) → says l (small date) c ≡ Small·Answer.value ws → BeginsDate (c .profile) (c .entry) (c .size) ws
+  pub meas-read : (c : Call) → WrittenRead (reader l c meas) measurementType measurementTold (λ x. Each32 (measurementTold x))
+  pub meas-written : (c : Call) → ReadWritten (reader l c meas) measurementType measurementTold (λ p entry size. 36 ≤ size)
+  pub view-read : (c : Call) → WrittenRead (reader l c view) viewingConditionsType viewTold (λ x. Each32 (viewTold x))
+  pub view-written : (c : Call) → ReadWritten (reader l c view) viewingConditionsType viewTold (λ p entry size. entry + size ≤ length p)
+  pub xyz-read : (c : Call) → WrittenRead (reader l c xyz) someXyzType firstTold (λ x. Each32 (firstTold x))
+  pub xyz-written : (c : Call) → ReadWritten (reader l c xyz) someXyzType firstTold (λ p entry size. Unit)
+  pub cicp-read : (c : Call) → WrittenRead (reader l c cicp) cicpType cicpTold (λ x. Unit)
+  pub cicp-written : (c : Call) → ReadWritten (reader l c cicp) cicpType cicpTold (λ p entry size. Unit)
   -- the view of an accepted lookup table; offsets and sizes are 32-bit values
   pub abm-shown : (walk : Walk) (c : Call) (f : Abm) → c .size < 2 ^ 32 → says l (lut walk) c .state ≡ abm f → 1 ≤ f .size → Shows l (tag c) (numbersOf (abm f)) (Abm·toldTable (says l (lut walk) c .grid) f) (f .bytes)
   pub mft-shown : (walk : Walk) (c : Call) (f : Fields) → c .size < 2 ^ 32 → says l (lut walk) c .state ≡ mft f → Shows l (tag c) (numbersOf (mft f)) (Mft·toldTable f) (f .clutBytes)
-  -- any view: what is not valid is absent, and the entries stand in the standard's order
+  -- it shows the colours that the standard writes, each at its point
+  pub abm-in-order : (walk : Walk) (c : Call) (x : LutParts (bytes c)) → c .size < 2 ^ 32 → 48 ≤ c .size → PartsTaken x → says l (lut walk) c ≡ told x → ShowsClut (shown l c (told x .state)) (x .clut)
+  pub wide-in-order : (walk : Walk) (c : Call) (reserved reserved2 n m : ℕ) (x : Lut) (rest : List ℕ) → c .size < 2 ^ 32 → 48 ≤ c .size → Sized n m x → Each16 (x .clut) → bytes c ≡ lut16Type reserved reserved2 n m x ++ rest → says l (lut walk) c .state ≡ mft (told16 n m x) → ShowsColours (shown l c (mft (told16 n m x))) (replicate (x .inputChannels) (x .gridPoints)) (x .outputChannels) (x .clut)
+  pub narrow-in-order : (walk : Walk) (c : Call) (reserved reserved2 : ℕ) (x : Lut) (rest : List ℕ) → c .size < 2 ^ 32 → 48 ≤ c .size → Sized 256 256 x → bytes c ≡ lut8Type reserved reserved2 x ++ rest → says l (lut walk) c .state ≡ mft (told8 x) → ShowsColours (shown l c (mft (told8 x))) (replicate (x .inputChannels) (x .gridPoints)) (x .outputChannels) (x .clut)
+  -- any view: what is not valid is absent
   pub not-shown : (t : List ℕ) (n : TableNumbers) (index : List ℕ) (channel : ℕ) → inGrid (tableBy t n .grid) index && ltb channel (n .outputs) ≡ false → Table·paper (l .reads t n index channel) ≡ Told.absent
-  pub in-order : (table : Table) (xs ys : List ℕ) (x y : ℕ) → Valid table xs x → Valid table ys y → Before xs ys → numberOf table xs x < numberOf table ys y
 
 -- ---- demand 3
 

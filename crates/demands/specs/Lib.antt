@@ -2,4 +2,3 @@ pub mod Readers
 pub mod Demands
 pub mod Cases
 pub mod Wrong
-pub mod Written

@@ -140,12 +140,12 @@ tooEarly l = record { returns = l .returns; leaves = writtenIn; reads = l .reads
 -- ---- none of them is admitted, whatever library it was made of
 
 pub record ShutOut (l : Library) : Type 0 where
-  -- by `curve-accepted`
+  -- by `curve-read`
   pub refuses-all : Demand2 (refusesAll l) → ⊥
   pub always-identity : Demand2 (alwaysIdentity l) → ⊥
-  -- by `small-accepted`
+  -- by `xyz-read`
   pub always-default : Demand2 (alwaysDefault l) → ⊥
-  -- by `abm-accepted`
+  -- by `abm-read`
   pub slots-unwritten : Demand2 (unwritten l) → ⊥
   pub first-copied : Demand2 (copied l) → ⊥
   pub count-made-up : Demand2 (madeUp l) → ⊥

@@ -22,6 +22,7 @@ use Rattle.fields.specs.declared.Kind.the-variants.{Mab, Mba}
 use Rattle.clut_meaning.specs.Clut.{is, clutOf}
 use Rattle.clut_meaning.specs.Table.{Table, lengthOf}
 use Rattle.clut_meaning.specs.Standard.{Taken as ClutTaken, told as tableTold}
+use Rattle.clut_meaning.proofs.Accepted.{accepted as clut-accepted}
 use Rattle.clut_meaning.proofs.Conforms.{told-length, written-read as clut-written, read-written as clut-read}
 use Rattle.curve_meaning.specs.Shape.{recordWords}
 use Rattle.curve_meaning.specs.declared.Walk.{Walk}
@@ -42,7 +43,7 @@ use Rattle.lut_meaning.specs.Judged.{good, ended}
 use Rattle.lut_meaning.specs.Layout.{toPcs, inputs, outputs, bOffset, matrixOffset, mOffset, clutOffset, aOffset, present, deviceChannels, spaceChannels, aCurves, mCurves, bCurves, planOf, recordsNeeded, matrixOf, biasOf, gridOf}
 use Rattle.lut_meaning.specs.Lut.{byType, lutOf, leftOf}
 use Rattle.lut_meaning.specs.Parts.{runA, runM, runB, runsJudged, curvesOf, matrixJudged}
-use Rattle.lut_meaning.specs.Standard.{towardsPcs, curvesThere, matrixTold, biasTold, MatrixTaken, startTold, bytesTold, sizeTold, gridTold, ClutFits, told, recordsWritten, PartsTaken, CurvesTaken, PartsAs, TagAs, PassesBy}
+use Rattle.lut_meaning.specs.Standard.{towardsPcs, curvesThere, Counts, matrixTold, biasTold, MatrixTaken, startTold, bytesTold, sizeTold, gridTold, ClutFits, told, recordsWritten, PartsTaken, CurvesTaken, PartsAs, TagAs, PassesBy}
 use Rattle.lut_meaning.proofs.Accepted.{IsValue, Accepted, accepted, mft-value, in-profile, abm-found, mft-found}
 use Rattle.lut_meaning.proofs.Inside.{matrix-inside}
 use Rattle.lut_meaning.proofs.Shared.{a-whole, m-whole, b-whole}
@@ -177,7 +178,7 @@ few-is i o (inl l) = rw (le-ltb 4 i l)
 few-is i o (inr l) = rw (le-ltb 4 o l) (and-false (ltb 4 i))
 
 -- a set has as many curves as the answer tells
-there-is : (offset channels : ℕ) → present offset channels ≡ curvesThere offset channels
+pub there-is : (offset channels : ℕ) → present offset channels ≡ curvesThere offset channels
 unfolding present
 there-is zero channels = refl
 there-is (suc offset) channels = rw (ne-eqb (suc offset) 0 (λ z. omega arith))
@@ -302,17 +303,17 @@ module _ (t : List ℕ) (b : Bytes t) where
         | inr l ↦ matrix-at offset (eqb-false offset 0 e) l
       ]
 
-  clut-of : (i o : ℕ) → inputs t ≡ i → outputs t ≡ o → i ≤ 16 → (table : Table) → tableOf t ≡ is table → (x : ClutAt t (clutOffset t) i o) × ClutFits x
+  clut-of : (i o : ℕ) → inputs t ≡ i → outputs t ≡ o → ((clutOffset t ≡ 0 → ⊥) → i ≤ 16) → (table : Table) → tableOf t ≡ is table → (x : ClutAt t (clutOffset t) i o) × ClutFits x
   unfolding tableOf ClutFits
   clut-of i o ei eo few table = by (eqb (clutOffset t) 0) refl
     where
       by : (x : Bool) → eqb (clutOffset t) 0 ≡ x → cond x (is noTable) (clutOf t (clutOffset t) (inputs t) (outputs t)) ≡ is table → (x : ClutAt t (clutOffset t) i o) × ClutFits x
       by true e h = (no-clut (eqb-true (clutOffset t) 0 e), tt)
       by false e h =
-          let s = clut-read t b (clutOffset t) i o few table (rw (ei, eo) at h) in
+          let s = clut-read t b (clutOffset t) i o (few (eqb-false (clutOffset t) 0 e)) table (rw (ei, eo) at h) in
           (the-clut (eqb-false (clutOffset t) 0 e) (s .clut) (s .stands) (s .sized), s .taken)
 
-  module _ (walk : Walk) (limit words : ℕ) (d : Direction) (e : u32At t 0 ≡ signature d) (long : 32 ≤ length t) (few : inputs t ≤ 16) (v : Accepted walk limit t words (abmOf walk limit t words)) where
+  module _ (walk : Walk) (limit words : ℕ) (d : Direction) (e : u32At t 0 ≡ signature d) (long : 32 ≤ length t) (few : (clutOffset t ≡ 0 → ⊥) → inputs t ≤ 16) (v : Accepted walk limit t words (abmOf walk limit t words)) where
     abbrev head : Head
     head =
         record {
@@ -503,6 +504,13 @@ numberIn g (mft f) = 0
 numberIn g absent = 0
 numberIn g (refused n) = 0
 
+-- a colour table that is there has entries of some bytes
+table-sized : (t : List ℕ) (table : Table) → tableOf t ≡ is table → (clutOffset t ≡ 0 → ⊥) → 1 ≤ table .size
+unfolding tableOf
+table-sized t table h there =
+    let e : clutOf t (clutOffset t) (inputs t) (outputs t) ≡ is table = rw (ne-eqb (clutOffset t) 0 there) at h in
+    clut-accepted t (clutOffset t) (inputs t) (outputs t) table e .laid .size-least
+
 three-passes : (walk : Walk) (a m b : List Placed) (rest : List ℕ) → PassesBy walk (recordsOf (a ++ m ++ b) ++ rest) (length a) (length m) (length b) → Passes walk a × Passes walk m × Passes walk b
 unfolding PassesBy Passes
 three-passes Book a m b rest h = (tt, tt, tt)
@@ -518,11 +526,40 @@ three-passes Crate a m b rest (ha, hm, hb) =
     let lm : length (ra ++ rm) ≡ (length a + length m) * 10 = length-append ra rm ∙ omega (arith, la, records-length m) in
     (passes-by [] 0 refl a (rm ++ (rb ++ rest)) (subst (λ (x : List ℕ). NoneEmpty x 0 (length a)) first ha), passes-by ra (length a) la m (rb ++ rest) (subst (λ (x : List ℕ). NoneEmpty x (length a) (length m)) second hm), passes-by (ra ++ rm) (length a + length m) lm b rest (subst (λ (x : List ℕ). NoneEmpty x (length a + length m) (length b)) third hb))
 
+-- the number of records, on every accepted call
+module _ (limit points : ℕ) (p : List ℕ) (entry size : ℕ) (walk : Walk) (words : ℕ) (f : Abm) (h : lutOf walk limit points p entry size words .state ≡ abm f) where
+  pub profile-counts : Counts (take size (drop entry p)) f
+  unfolding valueFrom aCurves mCurves bCurves deviceChannels spaceChannels
+  profile-counts =
+      let w = abm-found walk limit points p entry size words f h in
+      let t : List ℕ = take (countedSize size) (drop entry p) in
+      let v = w .behind in
+      let same : abm f ≡ valueFrom t (v .table .start) (lengthOf (v .table)) (v .table .size) .state = sym h ∙ ap (λ (a : Answer). a .state) (w .as-abm ∙ v .answer-is) in
+      let d : f .toPcs ≡ toPcs t = cc in
+      let i : f .inputs ≡ inputs t = ap (numberIn (λ x. x .inputs)) same in
+      let o : f .outputs ≡ outputs t = ap (numberIn (λ x. x .outputs)) same in
+      let a : f .a ≡ present (aOffset t) (cond (f .toPcs) (f .inputs) (f .outputs)) = rw (d, i, o) (ap (numberIn (λ x. x .a)) same) in
+      let m : f .m ≡ present (mOffset t) (cond (f .toPcs) (f .outputs) (f .inputs)) = rw (d, i, o) (ap (numberIn (λ x. x .m)) same) in
+      let b : f .b ≡ present (bOffset t) (cond (f .toPcs) (f .outputs) (f .inputs)) = rw (d, i, o) (ap (numberIn (λ x. x .b)) same) in
+      subst (λ (n : ℕ). Counts (take n (drop entry p)) f) (counted-is size (w .long)) record { a-is = a ∙ there-is _ _; m-is = m ∙ there-is _ _; b-is = b ∙ there-is _ _ }
+
 module _ (limit points : ℕ) (p : List ℕ) (b : Bytes p) (entry size : ℕ) where
   abbrev tagIn : List ℕ
   tagIn = take size (drop entry p)
 
-  module _ (walk : Walk) (words : ℕ) (f : Abm) (h : lutOf walk limit points p entry size words .state ≡ abm f) (few : getD tagIn 8 0 ≤ 16) where
+  module _ (walk : Walk) (words : ℕ) (f : Abm) (h : lutOf walk limit points p entry size words .state ≡ abm f) (few : 1 ≤ f .size → f .inputs ≤ 16) where
+    -- the CLUT of the standard has grid points for sixteen input channels
+    sixteen : let t : List ℕ = take (countedSize size) (drop entry p) in (clutOffset t ≡ 0 → ⊥) → inputs t ≤ 16
+    unfolding valueFrom
+    sixteen there =
+        let w = abm-found walk limit points p entry size words f h in
+        let t : List ℕ = take (countedSize size) (drop entry p) in
+        let v = w .behind in
+        let same : abm f ≡ valueFrom t (v .table .start) (lengthOf (v .table)) (v .table .size) .state = sym h ∙ ap (λ (a : Answer). a .state) (w .as-abm ∙ v .answer-is) in
+        let i : f .inputs ≡ inputs t = ap (numberIn (λ x. x .inputs)) same in
+        let k : f .size ≡ v .table .size = ap (numberIn (λ x. x .size)) same in
+        omega (arith, i, k, few (omega (arith, k, table-sized t (v .table) (v .table-is) there)))
+
     -- the head, the matrix and the CLUT, on either walk
     pub profile-parts : (entry + size ≤ length p) × PartsAs tagIn (lutOf walk limit points p entry size words)
     unfolding signatureOf
@@ -532,10 +569,9 @@ module _ (limit points : ℕ) (p : List ℕ) (b : Bytes p) (entry size : ℕ) wh
         let t : List ℕ = take (countedSize size) (drop entry p) in
         let c : Bytes t = part-bytes p b entry (countedSize size) in
         let long : 32 ≤ length t = omega (arith, w .long, w .tag-in-profile, length-take (countedSize size) (drop entry p), length-drop entry p) in
-        let least : getD t 8 0 ≤ 16 = rw k few in
         let r : PartsAs t (abmOf walk limit t words) = elim (w .type-is) [
-          | inl e ↦ frame t c walk limit words aToB e long least (w .behind)
-          | inr e ↦ frame t c walk limit words bToA e long least (w .behind)
+          | inl e ↦ frame t c walk limit words aToB e long sixteen (w .behind)
+          | inr e ↦ frame t c walk limit words bToA e long sixteen (w .behind)
         ] in
         (rw k at (w .tag-in-profile), rw k at (rw (← w .as-abm) at r))
 
@@ -548,7 +584,6 @@ module _ (limit points : ℕ) (p : List ℕ) (b : Bytes p) (entry size : ℕ) wh
         let t : List ℕ = take (countedSize size) (drop entry p) in
         let c : Bytes t = part-bytes p b entry (countedSize size) in
         let long : 32 ≤ length t = omega (arith, w .long, w .tag-in-profile, length-take (countedSize size) (drop entry p), length-drop entry p) in
-        let least : getD t 8 0 ≤ 16 = rw k few in
         let g = w .behind .runs-good in
         let records : List ℕ = recordsOf (curvesOf walk limit t (planOf t)) in
         let rest : List ℕ = drop (length records) slots in
@@ -559,8 +594,8 @@ module _ (limit points : ℕ) (p : List ℕ) (b : Bytes p) (entry size : ℕ) wh
         let fb : f .b ≡ bCurves t = ap (numberIn (λ x. x .b)) same in
         let passed = three-passes walk (ca walk limit t g) (cm walk limit t g) (cb walk limit t g) rest (rw (a-long walk limit t g, m-long walk limit t g, b-long walk limit t g, ← fa, ← fm, ← fb, ← e) pass) in
         let r : TagAs walk limit t (abmOf walk limit t words) slots left = elim (w .type-is) [
-          | inl y ↦ back t c walk limit words aToB y long least (w .behind) (passed .0) (passed .1) (passed .2) slots left e
-          | inr y ↦ back t c walk limit words bToA y long least (w .behind) (passed .0) (passed .1) (passed .2) slots left e
+          | inl y ↦ back t c walk limit words aToB y long sixteen (w .behind) (passed .0) (passed .1) (passed .2) slots left e
+          | inr y ↦ back t c walk limit words bToA y long sixteen (w .behind) (passed .0) (passed .1) (passed .2) slots left e
         ] in
         (rw k at (w .tag-in-profile), rw k at (rw (← w .as-abm) at r))
 

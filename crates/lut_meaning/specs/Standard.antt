@@ -2,10 +2,11 @@
 -- goes by the reader's own layout.
 use Prim.Native.Nat.{ℕ, zero, suc, _+_, _≤_}
 use mathlib.Core.Path.{_≡_}
-use mathlib.Core.Bool.{Bool, true, false}
+use mathlib.Core.Bool.{Bool, true, false, cond}
 use mathlib.Core.List.{List, [], _∷_, _++_, map}
 use mathlib.Core.Logic.{_⊎_}
 use lib.ListN.{length, drop, replicate}
+use Rattle.fields.specs.Bytes.{u32At}
 use Rattle.icc.specs.Elements.{Direction, aToB, bToA, Head, curvesA, curvesMB, precision, entryBytes, MatrixAt, no-matrix, the-matrix, ClutAt, no-clut, the-clut, LutParts, LutCurves}
 use Rattle.icc.specs.Numbers.{Is32, Each32}
 use Rattle.icc.specs.Tables.{nine}
@@ -13,7 +14,7 @@ use Rattle.clut_meaning.specs.Standard.{Taken as ClutTaken}
 use Rattle.curve_meaning.specs.declared.Walk.{Walk}
 use Rattle.curve_meaning.specs.declared.Walk.the-variants.{Crate, Book}
 use Rattle.run.specs.Standard.{seenOf, AllFit, Passes, recordsTold, NoneEmpty}
-use Rattle.lut_meaning.specs.Answer.{abm, Answer}
+use Rattle.lut_meaning.specs.Answer.{Abm, abm, Answer}
 
 -- ---- what is answered
 
@@ -25,6 +26,13 @@ towardsPcs bToA = false
 abbrev pub curvesThere : ℕ → ℕ → ℕ
 curvesThere zero channels = 0
 curvesThere (suc offset) channels = channels
+
+-- the number of records: the channels of the runs that are there, by the tag t, which has the offsets of A, M and B at bytes 28, 20 and 12. A
+-- curves stand on the device's side, M and B curves on the connection space's
+pub record Counts (t : List ℕ) (f : Abm) : Type 0 where
+  pub a-is : f .a ≡ curvesThere (u32At t 28) (cond (f .toPcs) (f .inputs) (f .outputs))
+  pub m-is : f .m ≡ curvesThere (u32At t 20) (cond (f .toPcs) (f .outputs) (f .inputs))
+  pub b-is : f .b ≡ curvesThere (u32At t 12) (cond (f .toPcs) (f .outputs) (f .inputs))
 
 module _ {t : List ℕ} where
   module _ {offset : ℕ} where
