@@ -5,3 +5,4 @@ pub mod Third
 pub mod Cases
 pub mod ShutOut
 pub mod Written
+pub mod Inhabited
