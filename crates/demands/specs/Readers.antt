@@ -183,7 +183,7 @@ Keeps r c x slots = Answers r c x × Leaves r c slots
 abbrev pub Reads : List ℕ → TableNumbers → List ℕ → ℕ → EntryAnswer → Type 0
 Reads t n index channel x = Table·paper x ≡ entryOf t (tableBy t n) index channel
 
--- the library keeps the contracts of the readers and of `table::entry_at`. The functions of src/ say the same of the code
+-- the library keeps the contracts of the readers and of `table::entry_at`. The functions of crate demands_kept say the same of the code
 pub record Promised (l : Library) : Type 0 where
   pub answers : (r : Reader) (c : Call) → Answers r c (l .returns r c)
   pub leaves-so : (r : Reader) (c : Call) → Leaves r c (l .leaves r c)
