@@ -1,5 +1,5 @@
--- A library that keeps the contracts: a call returns the result that stands for its meaning, and leaves the slots as they are to be left. So no
--- demand holds for want of a library, and this one meets all three.
+-- There is a library that keeps the contracts, that of specs/Kept.antt: no demand holds for want of one. The result that stands for an answer has
+-- its numbers, as each meaning answers with the eighteen refusals and with values as long as the code's.
 -- Assumes nothing.
 use Prim.Native.Nat.{ℕ, _+_, _-_, _*_, _/_}
 use mathlib.Core.Path.{_≡_, refl, ap, subst}
@@ -44,53 +44,22 @@ use Rattle.small_meaning.specs.Layout.{nineNumbers, signatureIn, dateBytes, mea
 use Rattle.small_meaning.specs.Order.{answerTo as Small·answerTo}
 use Rattle.small_meaning.specs.Small.{matrixOf, chadOf, windowOf, tripleOf}
 use Rattle.small_meaning.specs.declared.Found.{Found}
-use Rattle.small_meaning.proofs.Unique.{chadFrom, sigFrom, dateFrom, measFrom, viewFrom, xyzFrom, cicpFrom}
 use Rattle.table_meaning.specs.Answer.{Told, paper as Table·paper}
 use Rattle.table_meaning.specs.View.{tableBy, entryOf}
-use Rattle.table_meaning.specs.declared.EntryAnswer.{EntryAnswer}
-use Rattle.demands.specs.Readers.{Small, chad, sig, date, meas, view, xyz, cicp, Reader, lut, trc, string, small, Call, SmallResult, smallNumbers, smallOf, Result, Numbers, numbers, meaning, left, Library, Promised}
+use Rattle.demands.specs.Readers.{Small, chad, sig, date, meas, view, xyz, cicp, Reader, lut, trc, string, small, Call, smallNumbers, smallOf, numbers, meaning, Promised}
 use Rattle.demands.specs.Demands.{Demand1, Demand2, Demand3}
+use Rattle.demands.specs.Kept.{smallResult, result, entryResult, kept}
 use Rattle.demands.proofs.First.{demand1}
 use Rattle.demands.proofs.Second.{demand2}
 use Rattle.demands.proofs.Third.{demand3}
 
--- ---- the library
-
--- the result that stands for an answer
-abbrev smallResult : (s : Small) → Small·Answer → SmallResult s
-smallResult chad a = chadFrom a
-smallResult sig a = sigFrom a
-smallResult date a = dateFrom a
-smallResult meas a = measFrom a
-smallResult view a = viewFrom a
-smallResult xyz a = xyzFrom a
-smallResult cicp a = cicpFrom a
-
-abbrev result : (r : Reader) → Numbers r → Result r
-result (lut walk) a = lutTo a
-result (trc walk) a = Curve·resultFrom a
-result string a = Text·resultTo a
-result (small s) a = smallResult s a
-
-abbrev entry : Told → EntryAnswer
-entry (Told.value n) = EntryAnswer.Value n
-entry Told.absent = EntryAnswer.Absent
-
-abbrev pub kept : Library
-kept =
-    record {
-      returns = λ r c. result r (meaning r c);
-      leaves = left;
-      reads = λ t n index channel. entry (entryOf t (tableBy t n) index channel);
-    }
-
--- ---- what is to be shown: the result of each answer has its numbers. A refusal does, if its number is one of the eighteen
-
+-- a refusal's number is one of the eighteen
 abbrev Known : ℕ → Type 0
 Known n = numberOf (nameOf n) ≡ n
 
 -- ---- the small readers
 
+-- the result of an answer has its numbers
 Shown : Small → Small·Answer → Type 0
 Shown s a = smallNumbers s (smallResult s a) ≡ a
 
@@ -286,7 +255,7 @@ shown (trc walk) c = trc-shown walk (c .entries) (c .profile) (c .entry) (c .siz
 shown string c = text-shown (c .profile) (c .entry) (c .size) (length (c .slots))
 shown (small s) c = small-shown s (c .profile) (c .entry) (c .size)
 
-told-back : (a : Told) → Table·paper (entry a) ≡ a
+told-back : (a : Told) → Table·paper (entryResult a) ≡ a
 told-back (Told.value n) = refl
 told-back Told.absent = refl
 

@@ -3,3 +3,4 @@ pub mod Demands
 pub mod Cases
 pub mod Wrong
 pub mod Written
+pub mod Kept
