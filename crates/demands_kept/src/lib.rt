@@ -1,6 +1,6 @@
-// Each reader under the contract that the demands speak of, `Keeps` of specs/Readers.antt: a function a reader, which calls it and adds nothing.
-// So a reader that promises less than the demands build on is refused here. What a reader does not take may be anything: limits, and
-// slots, which stay.
+// Each reader under the contract that the demands build on, `Keeps` and `Reads` of demands/specs/Readers.antt: a function a reader, which calls
+// it and adds nothing. So a reader that promises less is refused here. What a reader does not take may be anything: limits, and slots, which
+// stay.
 use curve::CurveAnswer;
 use curve::Walk;
 use fields::Entry;
