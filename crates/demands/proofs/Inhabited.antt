@@ -1,5 +1,5 @@
--- There is a library that keeps the contracts, that of specs/Kept.antt: no demand holds for want of one. The result that stands for an answer has
--- its numbers, as each meaning answers with the eighteen refusals and with values as long as the code's.
+-- There is a library that keeps the contracts, that of specs/Kept.antt, so no demand holds for want of one. The result that stands for an answer
+-- has its numbers: a meaning refuses with the eighteen numbers only, and its values have as many numbers as the code's.
 -- Assumes nothing.
 use Prim.Native.Nat.{ℕ, _+_, _-_, _*_, _/_}
 use mathlib.Core.Path.{_≡_, refl, ap, subst}
