@@ -26,7 +26,7 @@ recordFrom ws =
       f = getD ws 9 0;
     }
 
-abbrev resultFrom : Answer → CurveAnswer
+abbrev pub resultFrom : Answer → CurveAnswer
 resultFrom (value ws consumed) = CurveAnswer.Value (recordFrom ws) consumed
 resultFrom absent = CurveAnswer.Absent
 resultFrom (refused n) = CurveAnswer.Refused (nameOf n)

@@ -4,3 +4,4 @@ pub mod Second
 pub mod Third
 pub mod Cases
 pub mod ShutOut
+pub mod Inhabited

@@ -54,6 +54,10 @@ pub record Call : Type 0 where
   pub points : ℕ
   pub slots : List ℕ
 
+abbrev pub call : List ℕ → ℕ → ℕ → ℕ → ℕ → List ℕ → Call
+call profile entry size entries points slots =
+    record { profile = profile; entry = entry; size = size; entries = entries; points = points; slots = slots }
+
 -- what a reader returns
 abbrev pub SmallResult : Small → Type 0
 SmallResult chad = ChadAnswer
@@ -165,8 +169,22 @@ says l r c = numbers r (l .returns r c)
 abbrev pub ends : Library → Reader → Call → Outcome
 ends l r c = outcome r (says l r c)
 
--- the library keeps the contracts of the readers, as they stand in the source, and of `table::entry_at`
+-- what a reader's contract says of a call: of the result that it returns, and of the slots as it leaves them
+abbrev pub Answers : (r : Reader) → Call → Result r → Type 0
+Answers r c x = numbers r x ≡ meaning r c
+
+abbrev pub Leaves : Reader → Call → List ℕ → Type 0
+Leaves r c slots = slots ≡ left r c
+
+abbrev pub Keeps : (r : Reader) → Call → Result r → List ℕ → Type 0
+Keeps r c x slots = Answers r c x × Leaves r c slots
+
+-- and that of `table::entry_at`, of the entry that it reads
+abbrev pub Reads : List ℕ → TableNumbers → List ℕ → ℕ → EntryAnswer → Type 0
+Reads t n index channel x = Table·paper x ≡ entryOf t (tableBy t n) index channel
+
+-- the library keeps the contracts of the readers and of `table::entry_at`. The functions of crate demands_kept say the same of the code
 pub record Promised (l : Library) : Type 0 where
-  pub answers : (r : Reader) (c : Call) → says l r c ≡ meaning r c
-  pub leaves-so : (r : Reader) (c : Call) → l .leaves r c ≡ left r c
-  pub reads-so : (t : List ℕ) (n : TableNumbers) (index : List ℕ) (channel : ℕ) → Table·paper (l .reads t n index channel) ≡ entryOf t (tableBy t n) index channel
+  pub answers : (r : Reader) (c : Call) → Answers r c (l .returns r c)
+  pub leaves-so : (r : Reader) (c : Call) → Leaves r c (l .leaves r c)
+  pub reads-so : (t : List ℕ) (n : TableNumbers) (index : List ℕ) (channel : ℕ) → Reads t n index channel (l .reads t n index channel)

@@ -28,7 +28,7 @@ tableTo f =
       «b_curves» = f .b;
     }
 
-abbrev answerTo : State → LutAnswer
+abbrev pub answerTo : State → LutAnswer
 answerTo (mft f) = LutAnswer.Mft (tableFrom f)
 answerTo (abm f) = LutAnswer.Abm (tableTo f)
 answerTo absent = LutAnswer.Absent
@@ -40,7 +40,7 @@ back (LutAnswer.Abm t) = refl
 back LutAnswer.Absent = refl
 back (LutAnswer.Refused why) = ap LutAnswer.Refused (named why)
 
-abbrev lutTo : Answer → Lut
+abbrev pub lutTo : Answer → Lut
 lutTo a = record { answer = answerTo (a .state); grid = a .grid; matrix = a .matrix; bias = a .bias }
 
 whole : (l : Lut) → lutTo (paper l) ≡ l

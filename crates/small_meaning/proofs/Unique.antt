@@ -18,7 +18,7 @@ use Rattle.small_meaning.specs.declared.XyzNumber.{XyzNumber}
 
 -- ---- `chad`
 
-abbrev chadFrom : Answer → ChadAnswer
+abbrev pub chadFrom : Answer → ChadAnswer
 chadFrom (value ws) = ChadAnswer.Value (record { e00 = getD ws 0 0; e01 = getD ws 1 0; e02 = getD ws 2 0; e10 = getD ws 3 0; e11 = getD ws 4 0; e12 = getD ws 5 0; e20 = getD ws 6 0; e21 = getD ws 7 0; e22 = getD ws 8 0 })
 chadFrom default = ChadAnswer.Absent
 chadFrom absent = ChadAnswer.Absent
@@ -34,7 +34,7 @@ chad-unique = once paperChad chadFrom chad-back
 
 -- ---- `sig `
 
-abbrev sigFrom : Answer → SigAnswer
+abbrev pub sigFrom : Answer → SigAnswer
 sigFrom (value ws) = SigAnswer.Value (getD ws 0 0)
 sigFrom default = SigAnswer.Absent
 sigFrom absent = SigAnswer.Absent
@@ -50,7 +50,7 @@ sig-unique = once paperSig sigFrom sig-back
 
 -- ---- `dtim`
 
-abbrev dateFrom : Answer → DateAnswer
+abbrev pub dateFrom : Answer → DateAnswer
 dateFrom (value bs) =
     DateAnswer.Value
     (record {
@@ -85,7 +85,7 @@ date-unique = once paperDate dateFrom date-back
 abbrev xyzIn : List ℕ → ℕ → ℕ → ℕ → XyzNumber
 xyzIn ws i j k = record { x = getD ws i 0; y = getD ws j 0; z = getD ws k 0 }
 
-abbrev xyzFrom : Answer → XyzAnswer
+abbrev pub xyzFrom : Answer → XyzAnswer
 xyzFrom (value ws) = XyzAnswer.Value (xyzIn ws 0 1 2)
 xyzFrom default = XyzAnswer.Default
 xyzFrom absent = XyzAnswer.Default
@@ -101,7 +101,7 @@ xyz-unique = once paperXyz xyzFrom xyz-back
 
 -- ---- `meas`
 
-abbrev measFrom : Answer → MeasAnswer
+abbrev pub measFrom : Answer → MeasAnswer
 measFrom (value ws) = MeasAnswer.Value (record { observer = getD ws 0 0; backing = xyzIn ws 1 2 3; geometry = getD ws 4 0; flare = getD ws 5 0; illuminant = getD ws 6 0 })
 measFrom default = MeasAnswer.Absent
 measFrom absent = MeasAnswer.Absent
@@ -117,7 +117,7 @@ meas-unique = once paperMeas measFrom meas-back
 
 -- ---- `view`
 
-abbrev viewFrom : Answer → ViewAnswer
+abbrev pub viewFrom : Answer → ViewAnswer
 viewFrom (value ws) = ViewAnswer.Value (record { illuminant = xyzIn ws 0 1 2; surround = xyzIn ws 3 4 5; number = getD ws 6 0 })
 viewFrom default = ViewAnswer.Absent
 viewFrom absent = ViewAnswer.Absent
@@ -133,7 +133,7 @@ view-unique = once paperView viewFrom view-back
 
 -- ---- `cicp`
 
-abbrev cicpFrom : Answer → CicpAnswer
+abbrev pub cicpFrom : Answer → CicpAnswer
 cicpFrom (value bs) = CicpAnswer.Value (record { primaries = getD bs 0 0; transfer = getD bs 1 0; matrix = getD bs 2 0; range = getD bs 3 0 })
 cicpFrom default = CicpAnswer.Absent
 cicpFrom absent = CicpAnswer.Absent

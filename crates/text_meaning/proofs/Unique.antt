@@ -14,7 +14,7 @@ use Rattle.text_meaning.specs.declared.TextAnswer.{TextAnswer}
 abbrev rangeTo : Span → Range
 rangeTo s = record { start = record { 0 = s .start }; length = s .bytes }
 
-abbrev resultTo : Answer → TextAnswer
+abbrev pub resultTo : Answer → TextAnswer
 resultTo (text s) = TextAnswer.Text (rangeTo s)
 resultTo (desc s u) = TextAnswer.Desc record { ascii = rangeTo s; language = u .language; unicode = rangeTo (u .string) }
 resultTo (mluc n) = TextAnswer.Mluc n

@@ -1,0 +1,278 @@
+-- There is a library that keeps the contracts, that of specs/Kept.antt, so no demand holds for want of one. The result that stands for an answer
+-- has its numbers: a meaning refuses with the eighteen numbers only, and its values have as many numbers as the code's.
+-- Assumes nothing.
+use Prim.Native.Nat.{ℕ, _+_, _-_, _*_, _/_}
+use mathlib.Core.Path.{_≡_, refl, ap, subst}
+use mathlib.Core.Bool.{not, _&&_, _||_}
+use mathlib.Core.List.{List}
+use lib.Dec.{ltb, leb, eqb}
+use lib.ListN.{length, getD, drop}
+use Rattle.fields.specs.Bytes.{u32At, bytesAt, wordsAt}
+use Rattle.fields.specs.Place.{tagAt, countedSize}
+use Rattle.fields.specs.Refusals.{numberOf}
+use Rattle.fields.specs.Tag.{signatureOf}
+use Rattle.fields.specs.declared.Kind.the-variants.{Curv, Para, Text, Mluc, Desc, Sf32}
+use Rattle.fields.proofs.Choice.{each}
+use Rattle.fields.proofs.Numbers.{nameOf}
+use Rattle.curve_meaning.specs.Answer.{Answer as Curve·Answer, answerOf, paper as Curve·paper}
+use Rattle.curve_meaning.specs.Curve.{trcOf, curveOf, tableOf, paraOf, divides, tagOf as Curve·tagOf}
+use Rattle.curve_meaning.specs.Layout.{entryCount, entriesEnd, functionType, parameterCount, parametersEnd, parameters}
+use Rattle.curve_meaning.specs.Shape.{empty, table, para, Seen, is, no, wordsOf}
+use Rattle.curve_meaning.specs.declared.Walk.{Walk}
+use Rattle.curve_meaning.proofs.Unique.{resultFrom as Curve·resultFrom}
+use Rattle.run.specs.Run.{entryAt, runAt}
+use Rattle.run.proofs.Runs.{run-induct}
+use Rattle.clut_meaning.specs.Clut.{Seen as Clut·Seen, is as Clut·is, no as Clut·no, clutOf, shapeOf, gridAt, tableAt, overflows, mostEntries, some, isFlat}
+use Rattle.clut_meaning.specs.Table.{pointsOf, entriesOf, lengthOf, lastOf}
+use Rattle.mft_meaning.specs.Answer.{State as Mft·State, answerOf as Mft·answerOf}
+use Rattle.mft_meaning.specs.Layout.{isMft, tablesStart, tablesEnd, colourTable}
+use Rattle.mft_meaning.specs.Mft.{mftOf, numbersOf, tablesOf, badNumbers}
+use Rattle.lut_meaning.specs.Abm.{abmOf, withTable, judgedOf, recordedOf, valueFrom, tableOf as clutIn}
+use Rattle.lut_meaning.specs.Answer.{State, Answer as Lut·Answer, stateFrom, paper as Lut·paper, mftState, orRefused}
+use Rattle.lut_meaning.specs.Judged.{Judged, good, bad, ended, andThen}
+use Rattle.lut_meaning.specs.Layout.{inputs, outputs, clutOffset, matrixOffset, planOf, recordsNeeded}
+use Rattle.lut_meaning.specs.Lut.{lutOf, byType as Lut·byType, isAbm, tagOf as Lut·tagOf}
+use Rattle.lut_meaning.specs.Parts.{runsJudged, matrixJudged}
+use Rattle.lut_meaning.proofs.Unique.{answerTo, lutTo}
+use Rattle.text_meaning.specs.Answer.{Answer as Text·Answer, paper as Text·paper}
+use Rattle.text_meaning.specs.Layout.{asciiEnd}
+use Rattle.text_meaning.specs.Mluc.{End as Mluc·End, whole as Mluc·whole, stopped as Mluc·stopped, header, string as string-fault, recordsIn, recordsAsked, recordWords as textWords}
+use Rattle.text_meaning.specs.Text.{stringOf, byType as Text·byType, textOf, mlucOf, descOf, endedBy, slottedOf, tagOf as Text·tagOf}
+use Rattle.text_meaning.proofs.Unique.{resultTo as Text·resultTo}
+use Rattle.small_meaning.specs.Answer.{Answer as Small·Answer}
+use Rattle.small_meaning.specs.Layout.{nineNumbers, signatureIn, dateBytes, measurement, conditions, firstXyz, codePoints}
+use Rattle.small_meaning.specs.Order.{answerTo as Small·answerTo}
+use Rattle.small_meaning.specs.Small.{matrixOf, chadOf, windowOf, tripleOf}
+use Rattle.small_meaning.specs.declared.Found.{Found}
+use Rattle.table_meaning.specs.Answer.{Told, paper as Table·paper}
+use Rattle.table_meaning.specs.View.{tableBy, entryOf}
+use Rattle.demands.specs.Readers.{Small, chad, sig, date, meas, view, xyz, cicp, Reader, lut, trc, string, small, Call, smallNumbers, smallOf, numbers, meaning, Promised}
+use Rattle.demands.specs.Demands.{Demand1, Demand2, Demand3}
+use Rattle.demands.specs.Kept.{smallResult, result, entryResult, kept}
+use Rattle.demands.proofs.First.{demand1}
+use Rattle.demands.proofs.Second.{demand2}
+use Rattle.demands.proofs.Third.{demand3}
+
+-- a refusal's number is one of the eighteen
+abbrev Known : ℕ → Type 0
+Known n = numberOf (nameOf n) ≡ n
+
+-- ---- the small readers
+
+-- the result of an answer has its numbers
+Shown : Small → Small·Answer → Type 0
+Shown s a = smallNumbers s (smallResult s a) ≡ a
+
+by-order : (P : Small·Answer → Type 0) (f : Found) (short other this : Small·Answer) → P short → P (Small·Answer.refused 1) → P other → P this → P (Small·answerTo f short other this)
+unfolding Small·answerTo
+by-order P Found.Short short other this a b c d = a
+by-order P Found.Past short other this a b c d = b
+by-order P Found.Other short other this a b c d = c
+by-order P (Found.Tag from to) short other this a b c d = d
+
+chad-shown : (p : List ℕ) (at size : ℕ) → Shown chad (chadOf p at size)
+unfolding Shown chadOf matrixOf nineNumbers wordsAt
+chad-shown p at size =
+    let P = Shown chad in
+    let t = tagAt p at size in
+    each P (ltb (length p) (at + size)) _ _ (λ _. refl)
+    (λ _. each P (ltb (length p) (at + 8)) _ _ (λ _. refl)
+    (λ _. each P (ltb size 8) _ _ (λ _. refl)
+    (λ _. each P (eqb ((size - 8) / 4) 9) _ _
+    (λ _. each P (eqb (u32At t 0) (signatureOf Sf32)) _ _ (λ _. each P (eqb (length t) 44) _ _ (λ _. refl) (λ _. refl)) (λ _. refl)) (λ _. refl))))
+
+small-shown : (s : Small) (p : List ℕ) (at size : ℕ) → Shown s (smallOf s p at size)
+unfolding Shown signatureIn dateBytes measurement conditions firstXyz codePoints windowOf tripleOf wordsAt bytesAt
+small-shown chad p at size = chad-shown p at size
+small-shown sig p at size = by-order (Shown sig) _ _ _ _ refl refl refl refl
+small-shown date p at size = by-order (Shown date) _ _ _ _ refl refl refl refl
+small-shown meas p at size =
+    by-order (Shown meas) _ _ _ _ refl refl refl (each (Shown meas) (ltb (length p) (at + 36)) _ _ (λ _. refl) (λ _. refl))
+small-shown view p at size = by-order (Shown view) _ _ _ _ refl refl refl refl
+small-shown xyz p at size =
+    by-order (Shown xyz) _ _ _ _ refl refl refl (each (Shown xyz) (ltb (length (tagAt p at size)) 20) _ _ (λ _. refl) (λ _. refl))
+small-shown cicp p at size = by-order (Shown cicp) _ _ _ _ refl refl refl refl
+
+-- ---- the tone curve
+
+-- what is seen is a curve, or refused with a known number
+SeenKnown : Seen → Type 0
+SeenKnown (is s) = Unit
+SeenKnown (no n) = Known n
+
+curve-known : (limit : ℕ) (t : List ℕ) → SeenKnown (curveOf limit t)
+unfolding SeenKnown curveOf tableOf paraOf
+curve-known limit t =
+    let P = SeenKnown in
+    let n = entryCount t in
+    let type = functionType t in
+    each P (ltb (length t) 12) _ _ (λ _. refl)
+    (λ _. each P (eqb (u32At t 0) (signatureOf Curv)) _ _
+    (λ _. each P (eqb n 0) _ _ (λ _. tt)
+    (λ _. each P (ltb limit n) _ _ (λ _. refl) (λ _. each P (ltb (length t) (entriesEnd n)) _ _ (λ _. refl) (λ _. tt))))
+    (λ _. each P (eqb (u32At t 0) (signatureOf Para)) _ _
+    (λ _. each P (ltb 4 type) _ _ (λ _. refl)
+    (λ _. each P (ltb (length t) (parametersEnd (parameterCount type))) _ _ (λ _. refl)
+    (λ _. each P (divides type && eqb (getD (parameters t) 1 0) 0) _ _ (λ _. refl) (λ _. tt))))
+    (λ _. refl)))
+
+trc-shown : (walk : Walk) (limit : ℕ) (p : List ℕ) (at size : ℕ) → Curve·paper (Curve·resultFrom (trcOf walk limit p at size)) ≡ trcOf walk limit p at size
+unfolding trcOf SeenKnown answerOf wordsOf
+trc-shown walk limit p at size =
+    let P : Curve·Answer → Type 0 = λ a. Curve·paper (Curve·resultFrom a) ≡ a in
+    each P (ltb (length p) (at + 4)) _ _ (λ _. refl)
+    (λ _. each P (leb 1 size && ltb size 12) _ _ (λ _. refl)
+    (λ _. each P (ltb (length p) (at + size)) _ _ (λ _. refl) (λ _. by (curveOf limit (Curve·tagOf p at size)) (curve-known limit (Curve·tagOf p at size)))))
+  where
+    by : (x : Seen) → SeenKnown x → Curve·paper (Curve·resultFrom (answerOf walk 12 x)) ≡ answerOf walk 12 x
+    by (is empty) k = refl
+    by (is (table n)) k = refl
+    by (is (para type ps)) k = refl
+    by (no n) k = ap Curve·Answer.refused k
+
+-- ---- lookup tables
+
+-- the result of an answer has its state, and its arrays are the answer's own
+Stands : State → Type 0
+Stands s = stateFrom (answerTo s) ≡ s
+
+abbrev StandsOf : Lut·Answer → Type 0
+StandsOf a = Stands (a .state)
+
+JudgedKnown : Judged → Type 0
+JudgedKnown good = Unit
+JudgedKnown (bad n) = Known n
+
+or-refused : (j : Judged) (a : Lut·Answer) → JudgedKnown j → StandsOf a → StandsOf (orRefused j a)
+unfolding JudgedKnown Stands
+or-refused good a k h = h
+or-refused (bad n) a k h = ap State.refused k
+
+both : (i j : Judged) → JudgedKnown i → JudgedKnown j → JudgedKnown (andThen i j)
+unfolding JudgedKnown
+both good j a b = b
+both (bad n) j a b = a
+
+entry-known : (limit : ℕ) (t : List ℕ) (at : ℕ) → SeenKnown (entryAt limit t at)
+unfolding SeenKnown entryAt
+entry-known limit t at = each SeenKnown (ltb (length t) (at + 12)) _ _ (λ _. refl) (λ _. curve-known limit (drop at t))
+
+run-known : (walk : Walk) (limit : ℕ) (t : List ℕ) (n at : ℕ) → JudgedKnown (ended (runAt walk limit t at n .end))
+unfolding JudgedKnown SeenKnown ended
+run-known walk limit t =
+    run-induct walk limit t (λ at n r. JudgedKnown (ended (r .end))) (λ at. tt) (λ at n m e. subst SeenKnown e (entry-known limit t at)) (λ at n s e ih. ih)
+
+matrix-known : (t : List ℕ) → JudgedKnown (matrixJudged t)
+unfolding JudgedKnown matrixJudged
+matrix-known t =
+    each JudgedKnown (eqb (matrixOffset t) 0) _ _ (λ _. tt) (λ _. each JudgedKnown (ltb (length t) (matrixOffset t + 48)) _ _ (λ _. refl) (λ _. tt))
+
+ClutKnown : Clut·Seen → Type 0
+ClutKnown (Clut·is x) = Unit
+ClutKnown (Clut·no n) = Known n
+
+clut-known : (t : List ℕ) → ClutKnown (clutIn t)
+unfolding ClutKnown clutIn clutOf shapeOf
+clut-known t =
+    let P = ClutKnown in
+    let x = tableAt t (clutOffset t) (gridAt t (clutOffset t) (inputs t)) (outputs t) in
+    each P (eqb (clutOffset t) 0) _ _ (λ _. tt)
+    (λ _. each P (ltb (length t) (x .start)) _ _ (λ _. refl)
+    (λ _. each P (overflows (x .grid) (outputs t)) _ _ (λ _. refl)
+    (λ _. each P (eqb (entriesOf x) 0) _ _ (λ _. refl)
+    (λ _. each P (ltb mostEntries (entriesOf x)) _ _ (λ _. refl)
+    (λ _. each P (some isFlat (x .grid)) _ _ (λ _. refl)
+    (λ _. each P (leb (entriesOf x) (lastOf (x .grid) * x .outputs)) _ _ (λ _. refl)
+    (λ _. each P (ltb (x .size) 1 || ltb 2 (x .size)) _ _ (λ _. refl)
+    (λ _. each P (ltb (length t) (x .start + lengthOf x)) _ _ (λ _. refl) (λ _. tt)))))))))
+
+abm-stands : (walk : Walk) (limit : ℕ) (t : List ℕ) (words : ℕ) → StandsOf (abmOf walk limit t words)
+unfolding Stands abmOf ClutKnown judgedOf runsJudged recordedOf valueFrom
+abm-stands walk limit t words =
+    each StandsOf (ltb 4 (inputs t) && ltb 4 (outputs t)) _ _ (λ _. refl)
+    (λ _. or-refused (matrixJudged t) _ (matrix-known t) (by (clutIn t) (clut-known t)))
+  where
+    by : (x : Clut·Seen) → ClutKnown x → StandsOf (withTable walk limit t words x)
+    by (Clut·is x) k =
+        or-refused (runsJudged walk limit t (planOf t)) _
+        (both _ _ (run-known walk limit t _ _) (both _ _ (run-known walk limit t _ _) (run-known walk limit t _ _)))
+        (each StandsOf (ltb (words / 10) (recordsNeeded t)) _ _ (λ _. refl) (λ _. refl))
+    by (Clut·no n) k = ap State.refused k
+
+mft-stands : (points : ℕ) (t : List ℕ) → Stands (mftState (Mft·answerOf t (mftOf points t) .state))
+unfolding Stands Mft·answerOf mftOf numbersOf tablesOf
+mft-stands points t =
+    let P : Mft·State → Type 0 = λ s. Stands (mftState (Mft·answerOf t s .state)) in
+    each P (ltb (length t) 48) _ _ (λ _. refl)
+    (λ _. each P (not (isMft t)) _ _ (λ _. refl)
+    (λ _. each P (ltb (length t) (tablesStart t)) _ _ (λ _. refl)
+    (λ _. each P (badNumbers t) _ _ (λ _. refl)
+    (λ _. each P (ltb points (pointsOf (colourTable t))) _ _ (λ _. refl)
+    (λ _. each P (ltb (length t) (tablesEnd t)) _ _ (λ _. refl) (λ _. refl))))))
+
+lut-stands : (walk : Walk) (limit points : ℕ) (p : List ℕ) (at size words : ℕ) → StandsOf (lutOf walk limit points p at size words)
+unfolding Stands lutOf Lut·byType
+lut-stands walk limit points p at size words =
+    let t = Lut·tagOf p at size in
+    each StandsOf (ltb (length p) (at + countedSize size)) _ _ (λ _. refl)
+    (λ _. each StandsOf (ltb (countedSize size) 48) _ _ (λ _. refl)
+    (λ _. each StandsOf (isMft t) _ _ (λ _. mft-stands points t)
+    (λ _. each StandsOf (isAbm t) _ _ (λ _. abm-stands walk limit t words) (λ _. refl))))
+
+lut-shown : (a : Lut·Answer) → StandsOf a → Lut·paper (lutTo a) ≡ a
+unfolding Stands
+lut-shown a h = ap (λ (s : State). record { state = s; grid = a .grid; matrix = a .matrix; bias = a .bias }) h
+
+-- ---- text
+
+text-shown : (p : List ℕ) (at size words : ℕ) → Text·paper (Text·resultTo (stringOf p at size words)) ≡ stringOf p at size words
+unfolding stringOf Text·byType textOf mlucOf descOf slottedOf
+text-shown p at size words =
+    let P : Text·Answer → Type 0 = λ a. Text·paper (Text·resultTo a) ≡ a in
+    let t = Text·tagOf p at size in
+    each P (ltb (countedSize size) 4) _ _ (λ _. refl)
+    (λ _. each P (ltb (length p) (at + countedSize size)) _ _ (λ _. refl)
+    (λ _. each P (ltb (countedSize size) 8) _ _ (λ _. refl)
+    (λ _. each P (eqb (u32At t 0) (signatureOf Text)) _ _ (λ _. refl)
+    (λ _. each P (eqb (u32At t 0) (signatureOf Mluc)) _ _ (λ _. by (recordsIn t .end) (recordsAsked t))
+    (λ _. each P (eqb (u32At t 0) (signatureOf Desc)) _ _
+    (λ _. each P (ltb (length t) 12) _ _ (λ _. refl) (λ _. each P (ltb (length t) (asciiEnd t)) _ _ (λ _. refl) (λ _. refl)))
+    (λ _. refl))))))
+  where
+    by : (e : Mluc·End) (n : ℕ) → Text·paper (Text·resultTo (endedBy e (slottedOf n words))) ≡ endedBy e (slottedOf n words)
+    by Mluc·whole n =
+        let P : Text·Answer → Type 0 = λ a. Text·paper (Text·resultTo a) ≡ a in
+        each P (ltb (words / textWords) n) _ _ (λ _. refl) (λ _. refl)
+    by (Mluc·stopped header) n = refl
+    by (Mluc·stopped string-fault) n = refl
+
+-- ---- the promise is kept
+
+shown : (r : Reader) (c : Call) → numbers r (result r (meaning r c)) ≡ meaning r c
+unfolding Shown
+shown (lut walk) c = lut-shown _ (lut-stands walk (c .entries) (c .points) (c .profile) (c .entry) (c .size) (length (c .slots)))
+shown (trc walk) c = trc-shown walk (c .entries) (c .profile) (c .entry) (c .size)
+shown string c = text-shown (c .profile) (c .entry) (c .size) (length (c .slots))
+shown (small s) c = small-shown s (c .profile) (c .entry) (c .size)
+
+told-back : (a : Told) → Table·paper (entryResult a) ≡ a
+told-back (Told.value n) = refl
+told-back Told.absent = refl
+
+pub keeps : Promised kept
+keeps =
+    record {
+      answers = shown;
+      leaves-so = λ r c. refl;
+      reads-so = λ t n index channel. told-back (entryOf t (tableBy t n) index channel);
+    }
+
+-- so it meets the demands
+pub first-met : Demand1 kept
+first-met = demand1 kept keeps
+
+pub second-met : Demand2 kept
+second-met = demand2 kept keeps
+
+pub third-met : Demand3 kept
+third-met = demand3 kept keeps

@@ -1,0 +1,38 @@
+-- A library that keeps the contracts: a call returns the result that stands for its meaning, and leaves the slots as they are to be left.
+use Rattle.curve_meaning.proofs.Unique.{resultFrom as Curve·resultFrom}
+use Rattle.lut_meaning.proofs.Unique.{lutTo}
+use Rattle.text_meaning.proofs.Unique.{resultTo as Text·resultTo}
+use Rattle.small_meaning.specs.Answer.{Answer as Small·Answer}
+use Rattle.small_meaning.proofs.Unique.{chadFrom, sigFrom, dateFrom, measFrom, viewFrom, xyzFrom, cicpFrom}
+use Rattle.table_meaning.specs.Answer.{Told}
+use Rattle.table_meaning.specs.View.{tableBy, entryOf}
+use Rattle.table_meaning.specs.declared.EntryAnswer.{EntryAnswer}
+use Rattle.demands.specs.Readers.{Small, chad, sig, date, meas, view, xyz, cicp, Reader, lut, trc, string, small, SmallResult, Result, Numbers, meaning, left, Library}
+
+-- the result that stands for an answer
+abbrev pub smallResult : (s : Small) → Small·Answer → SmallResult s
+smallResult chad a = chadFrom a
+smallResult sig a = sigFrom a
+smallResult date a = dateFrom a
+smallResult meas a = measFrom a
+smallResult view a = viewFrom a
+smallResult xyz a = xyzFrom a
+smallResult cicp a = cicpFrom a
+
+abbrev pub result : (r : Reader) → Numbers r → Result r
+result (lut walk) a = lutTo a
+result (trc walk) a = Curve·resultFrom a
+result string a = Text·resultTo a
+result (small s) a = smallResult s a
+
+abbrev pub entryResult : Told → EntryAnswer
+entryResult (Told.value n) = EntryAnswer.Value n
+entryResult Told.absent = EntryAnswer.Absent
+
+abbrev pub kept : Library
+kept =
+    record {
+      returns = λ r c. result r (meaning r c);
+      leaves = left;
+      reads = λ t n index channel. entryResult (entryOf t (tableBy t n) index channel);
+    }
