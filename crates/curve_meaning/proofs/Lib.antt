@@ -3,5 +3,6 @@ pub mod Unique
 pub mod Conforms
 pub mod Inside
 pub mod More
+pub mod Last
 pub mod Cases
 pub mod Written

@@ -22,7 +22,7 @@ use Rattle.clut_meaning.proofs.Conforms.{accepted as laid-out}
 use Rattle.clut_meaning.proofs.Grid.{entry-below}
 use Rattle.clut_meaning.proofs.Inside.{inside}
 use Rattle.curve_meaning.specs.declared.Walk.{Walk}
-use Rattle.mft_meaning.specs.Answer.{Fields}
+use Rattle.mft_meaning.specs.Answer.{Fields, answerOf}
 use Rattle.mft_meaning.proofs.Inside.{Inside as MftInside, inside as inside-mft}
 use Rattle.run.specs.Run.{Placed, Stands, Each}
 use Rattle.run.proofs.Runs.{run-inside}
@@ -193,7 +193,8 @@ lut-inside walk limit points p entry size words f h =
 
 -- ---- `mft1` and `mft2`
 
-pub mft-inside : (walk : Walk) (limit points : ℕ) (p : List ℕ) (entry size words : ℕ) (f : Fields) → lutOf walk limit points p entry size words .state ≡ mft f → (entry + countedSize size ≤ length p) × MftInside (tagOf p entry size) f
+pub mft-inside : (walk : Walk) (limit points : ℕ) (p : List ℕ) (entry size words : ℕ) (f : Fields) → lutOf walk limit points p entry size words .state ≡ mft f → (entry + countedSize size ≤ length p) × MftInside (tagOf p entry size) f × (lutOf walk limit points p entry size words ≡ record { state = mft f; grid = replicate 16 0; matrix = wordsAt (tagOf p entry size) 12 9; bias = replicate 3 0 })
+unfolding answerOf
 mft-inside walk limit points p entry size words f h =
     let w = mft-found walk limit points p entry size words f h in
-    (w .tag-in-profile, inside-mft points (tagOf p entry size) f (w .read-as))
+    (w .tag-in-profile, inside-mft points (tagOf p entry size) f (w .read-as), w .as-mft ∙ rw (w .read-as))

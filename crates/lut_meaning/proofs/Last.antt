@@ -1,68 +1,41 @@
 -- Refusal 14 comes last: no part of a tag is refused with it, so where it is answered everything else was good, and the slots alone are too
 -- few. With as many as the tag needs the answer is a value.
 -- Assumes nothing.
-use Prim.Native.Nat.{ℕ, suc, _+_, _*_, _/_, _≤_, _<_}
+use Prim.Native.Nat.{ℕ, _+_, _*_, _/_, _≤_, _<_}
 use native.Mathlib.Omega.{arith}
-use mathlib.Core.Path.{_≡_, refl, sym, ap, _∙_}
-use mathlib.Core.Bool.{Bool, true, false, not, _&&_, _||_}
+use mathlib.Core.Path.{_≡_, refl, ap, _∙_}
+use mathlib.Core.Bool.{true, false, not, _&&_, _||_}
 use mathlib.Core.List.{List}
 use lib.Dec.{ltb, leb, eqb}
-use lib.ListN.{length, getD, drop}
+use lib.ListN.{length, drop}
 use borrow.Author.Tests.{ltb-true, ltb-false, le-ltb}
-use Rattle.fields.specs.Bytes.{u32At}
 use Rattle.fields.specs.Place.{countedSize}
-use Rattle.fields.specs.Tag.{signatureOf}
-use Rattle.fields.specs.declared.Kind.the-variants.{Curv, Para}
 use Rattle.fields.proofs.Choice.{each}
 use Rattle.clut_meaning.specs.Clut.{Seen as Clut·Seen, is, no, tableAt, gridAt, some, isFlat, overflows, mostEntries, shapeOf, clutOf}
 use Rattle.clut_meaning.specs.Table.{Table, entriesOf, lengthOf, lastOf, pointsOf}
-use Rattle.curve_meaning.specs.Curve.{tableOf as Curve·tableOf, divides, paraOf, curveOf}
-use Rattle.curve_meaning.specs.Layout.{entryCount, entriesEnd, functionType, parameterCount, parametersEnd, parameters}
-use Rattle.curve_meaning.specs.Shape.{Shape, Seen as Curve·Seen, recordWords}
+use Rattle.curve_meaning.specs.Shape.{Seen as Curve·Seen, recordWords}
 use Rattle.curve_meaning.specs.declared.Walk.{Walk}
+use Rattle.curve_meaning.proofs.Last.{Not14, curve-not-14}
 use Rattle.mft_meaning.specs.Answer.{State as Mft·State, answerOf}
 use Rattle.mft_meaning.specs.Layout.{isMft, tablesStart, tablesEnd, colourTable}
 use Rattle.mft_meaning.specs.Mft.{badNumbers, tablesOf, numbersOf, mftOf}
-use Rattle.run.specs.Run.{End, whole, stopped, Ran, runAt, entryAt}
+use Rattle.run.specs.Run.{runAt, entryAt}
 use Rattle.run.proofs.Runs.{run-induct}
 use Rattle.lut_meaning.specs.Abm.{tableOf, noTable, valueFrom, recordedOf, judgedOf, withTable, abmOf}
 use Rattle.lut_meaning.specs.Answer.{State, refused, Answer, fromMft, orRefused}
 use Rattle.lut_meaning.specs.Judged.{Judged, good, bad, ended, andThen}
 use Rattle.lut_meaning.specs.Layout.{inputs, outputs, matrixOffset, clutOffset, planOf, recordsNeeded}
 use Rattle.lut_meaning.specs.Lut.{tagOf, isAbm, byType, lutOf}
-use Rattle.lut_meaning.specs.Parts.{runA, runM, runB, runsJudged, matrixJudged}
+use Rattle.lut_meaning.specs.Parts.{runsJudged, matrixJudged}
 use Rattle.lut_meaning.specs.declared.Plan.{Plan}
 use Rattle.lut_meaning.proofs.Accepted.{IsValue}
 
 -- ---- no part is refused with 14
 
-abbrev Not14 : Curve·Seen → Type 0
-Not14 x = x ≡ Curve·Seen.no 14 → ⊥
-
-seen : (s : Shape) → Not14 (Curve·Seen.is s)
-seen s e = let z : _≡_ {A = ℕ} 0 1 = cc in omega arith
-
-other : (n : ℕ) → (n ≡ 14 → ⊥) → Not14 (Curve·Seen.no n)
-other n h e = h cc
-
-curve-not-14 : (limit : ℕ) (t : List ℕ) → Not14 (curveOf limit t)
-unfolding curveOf Curve·tableOf paraOf
-curve-not-14 limit t =
-    each Not14 (ltb (length t) 12) _ _ (λ _. other 11 (λ z. omega arith))
-    (λ _. each Not14 (eqb (u32At t 0) (signatureOf Curv)) _ _
-    (λ _. each Not14 (eqb (entryCount t) 0) _ _ (λ _. seen _)
-    (λ _. each Not14 (ltb limit (entryCount t)) _ _ (λ _. other 10 (λ z. omega arith))
-    (λ _. each Not14 (ltb (length t) (entriesEnd (entryCount t))) _ _ (λ _. other 11 (λ z. omega arith)) (λ _. seen _))))
-    (λ _. each Not14 (eqb (u32At t 0) (signatureOf Para)) _ _
-    (λ _. each Not14 (ltb 4 (functionType t)) _ _ (λ _. other 12 (λ z. omega arith))
-    (λ _. each Not14 (ltb (length t) (parametersEnd (parameterCount (functionType t)))) _ _ (λ _. other 11 (λ z. omega arith))
-    (λ _. each Not14 (divides (functionType t) && eqb (getD (parameters t) 1 0) 0) _ _ (λ _. other 13 (λ z. omega arith)) (λ _. seen _))))
-    (λ _. other 9 (λ z. omega arith))))
-
 entry-not-14 : (limit : ℕ) (t : List ℕ) (at : ℕ) → Not14 (entryAt limit t at)
 unfolding entryAt
 entry-not-14 limit t at =
-    each Not14 (ltb (length t) (at + 12)) _ _ (λ _. other 2 (λ z. omega arith)) (λ _. curve-not-14 limit (drop at t))
+    each Not14 (ltb (length t) (at + 12)) _ _ (λ _ h. let z : _≡_ {A = ℕ} 2 14 = cc in omega arith) (λ _. curve-not-14 limit (drop at t))
 
 run-not-14 : (walk : Walk) (limit : ℕ) (t : List ℕ) (at n : ℕ) → ended (runAt walk limit t at n .end) ≡ bad 14 → ⊥
 unfolding ended
