@@ -114,9 +114,7 @@ module _ (l : Library) (p : Promised l) where
       record {
         tag-in-profile = i .0;
         type-is = i .1 .type-is;
-        inputs-are = i .1 .inputs-are;
-        outputs-are = i .1 .outputs-are;
-        points-are = i .1 .points-are;
+        numbers-are = (i .1 .inputs-are, i .1 .outputs-are, i .1 .points-are);
         matrix-in-tag = i .1 .matrix-in-tag;
         matrix-is = ap (λ (a : Lut·Answer). a .matrix) (e ∙ i .2);
         no-grid = ap (λ (a : Lut·Answer). a .grid) (e ∙ i .2);

@@ -124,9 +124,7 @@ pub record AbmInside (walk : Walk) (c : Call) (answer : Lut·Answer) (f : Abm) (
 pub record MftInside (c : Call) (answer : Lut·Answer) (f : Fields) : Type 0 where
   pub tag-in-profile : TagInside c
   pub type-is : ((u32At (tag c) 0 ≡ signatureOf Mft1) × (f .size ≡ 1)) ⊎ ((u32At (tag c) 0 ≡ signatureOf Mft2) × (f .size ≡ 2))
-  pub inputs-are : f .inputs ≡ getD (tag c) 8 0
-  pub outputs-are : f .outputs ≡ getD (tag c) 9 0
-  pub points-are : f .grid ≡ getD (tag c) 10 0
+  pub numbers-are : (f .inputs ≡ getD (tag c) 8 0) × (f .outputs ≡ getD (tag c) 9 0) × (f .grid ≡ getD (tag c) 10 0)
   pub matrix-in-tag : 12 + 36 ≤ length (tag c)
   pub matrix-is : answer .matrix ≡ wordsAt (tag c) 12 9
   pub no-grid : answer .grid ≡ replicate 16 0
