@@ -4,4 +4,5 @@ pub mod Accepted
 pub mod Inside
 pub mod Conforms
 pub mod More
+pub mod Last
 pub mod Cases

@@ -1,15 +1,15 @@
--- Demand 3 of the tone curve. Bytes behind the profile keep every answer but refusal 11 and the absence for want of four bytes. A
--- higher limit keeps every answer but refusal 10. A value is kept by both at once.
+-- Demand 3 of the tone curve. Bytes behind the profile keep every answer but refusal 11 and the absence for want of four bytes; one by a
+-- size of 1 to 11 stays. A higher limit keeps every answer but refusal 10. A value is kept by both at once.
 -- Assumes nothing.
 use Prim.Native.Nat.{ℕ, _+_, _*_, _≤_, _<_}
 use native.Mathlib.Omega.{arith}
-use mathlib.Core.Path.{_≡_, refl, _∙_, ap}
+use mathlib.Core.Path.{_≡_, refl, sym, _∙_, ap}
 use mathlib.Core.Bool.{Bool, true, false, cond, _&&_}
 use mathlib.Core.List.{List, _++_}
 use mathlib.Core.Logic.{_⊎_, inl, inr}
 use lib.Dec.{ltb, leb, eqb}
 use lib.ListN.{length, take, drop}
-use borrow.Author.Tests.{ltb-true, ltb-false, le-leb, le-ltb, lt-ltb}
+use borrow.Author.Tests.{ltb-true, ltb-false, eqb-true, eqb-false, le-leb, le-ltb, lt-ltb}
 use Rattle.fields.specs.Bytes.{u16At, u32At}
 use Rattle.fields.specs.Tag.{signatureOf}
 use Rattle.fields.specs.declared.Kind.the-variants.{Curv, Para}
@@ -71,13 +71,44 @@ tag-more : (limit : ℕ) (p q : List ℕ) (entry size : ℕ) (t : Bool) → entr
 tag-more limit p q entry size true h = rw (rest-append p q entry (omega arith)) (curve-more (drop entry p) q limit)
 tag-more limit p q entry size false h = rw (part-append p q entry size h) (inr refl)
 
+-- what is short of four bytes is absent
+pub short : (walk : Walk) (limit : ℕ) (p : List ℕ) (entry size : ℕ) → length p < entry + 4 → trcOf walk limit p entry size ≡ absent
+unfolding trcOf
+short walk limit p entry size h = rw (lt-ltb (length p) (entry + 4) h)
+
+-- sizes 1 to 11 are absent whatever the profile is
+pub small : (walk : Walk) (limit : ℕ) (p : List ℕ) (entry size : ℕ) → 1 ≤ size → size < 12 → trcOf walk limit p entry size ≡ absent
+unfolding trcOf
+small walk limit p entry size h l = rw (le-leb 1 size h, lt-ltb size 12 l) (by (ltb (length p) (entry + 4)))
+  where
+    by : (b : Bool) → cond b absent absent ≡ absent
+    by true = refl
+    by false = refl
+
+-- the tag wants four bytes that the profile has not, and its size does not rule it out
+pub record Wanting (p : List ℕ) (entry size : ℕ) : Type 0 where
+  pub four : length p < entry + 4
+  pub sized : (size ≡ 0) ⊎ (12 ≤ size)
+
+-- a size is 0, from 12 on, or between
+by-size : (size : ℕ) → ((size ≡ 0) ⊎ (12 ≤ size)) ⊎ ((1 ≤ size) × (size < 12))
+by-size size = by (eqb size 0) refl (ltb size 12) refl
+  where
+    by : (b : Bool) → eqb size 0 ≡ b → (c : Bool) → ltb size 12 ≡ c → ((size ≡ 0) ⊎ (12 ≤ size)) ⊎ ((1 ≤ size) × (size < 12))
+    by true e c f = inl (inl (eqb-true size 0 e))
+    by false e true f = inr (omega (arith, eqb-false size 0 e), ltb-true size 12 f)
+    by false e false f = inl (inr (ltb-false size 12 f))
+
 -- bytes behind the profile
-pub more-bytes : (walk : Walk) (limit : ℕ) (p q : List ℕ) (entry size : ℕ) → (length p < entry + 4) ⊎ Grows (Is 11) (trcOf walk limit p entry size) (trcOf walk limit (p ++ q) entry size)
+pub more-bytes : (walk : Walk) (limit : ℕ) (p q : List ℕ) (entry size : ℕ) → Wanting p entry size ⊎ Grows (Is 11) (trcOf walk limit p entry size) (trcOf walk limit (p ++ q) entry size)
 unfolding trcOf
 more-bytes walk limit p q entry size = by (ltb (length p) (entry + 4)) refl
   where
-    by : (t : Bool) → ltb (length p) (entry + 4) ≡ t → (length p < entry + 4) ⊎ Grows (Is 11) (trcOf walk limit p entry size) (trcOf walk limit (p ++ q) entry size)
-    by true e = inl (ltb-true (length p) (entry + 4) e)
+    by : (t : Bool) → ltb (length p) (entry + 4) ≡ t → Wanting p entry size ⊎ Grows (Is 11) (trcOf walk limit p entry size) (trcOf walk limit (p ++ q) entry size)
+    by true e = elim (by-size size) [
+      | inl s ↦ inl record { four = ltb-true (length p) (entry + 4) e; sized = s }
+      | inr s ↦ inr (inr (small walk limit (p ++ q) entry size (s .0) (s .1) ∙ sym (small walk limit p entry size (s .0) (s .1))))
+    ]
     by false e =
         inr
         (rw (e, longer p q (entry + 4) e)
@@ -110,27 +141,13 @@ more-limit walk low high p entry size h =
 
 -- ---- both
 
--- what is short of four bytes is absent
-pub short : (walk : Walk) (limit : ℕ) (p : List ℕ) (entry size : ℕ) → length p < entry + 4 → trcOf walk limit p entry size ≡ absent
-unfolding trcOf
-short walk limit p entry size h = rw (lt-ltb (length p) (entry + 4) h)
-
--- sizes 1 to 11 are absent whatever the profile is
-pub small : (walk : Walk) (limit : ℕ) (p : List ℕ) (entry size : ℕ) → 1 ≤ size → size < 12 → trcOf walk limit p entry size ≡ absent
-unfolding trcOf
-small walk limit p entry size h l = rw (le-leb 1 size h, lt-ltb size 12 l) (by (ltb (length p) (entry + 4)))
-  where
-    by : (b : Bool) → cond b absent absent ≡ absent
-    by true = refl
-    by false = refl
-
 -- a value keeps its record and its consumed size
 pub value-stays : (walk : Walk) (low high : ℕ) (p q : List ℕ) (entry size : ℕ) (ws : List ℕ) (consumed : ℕ) → low ≤ high → trcOf walk low p entry size ≡ value ws consumed → trcOf walk high (p ++ q) entry size ≡ value ws consumed
 value-stays walk low high p q entry size ws consumed h v =
     elim (more-limit walk low high p entry size h) [
       | inl e ↦ (let z : _≡_ {A = ℕ} 0 1 = cc in absurd (omega arith))
       | inr l ↦ elim (more-bytes walk high p q entry size) [
-        | inl s ↦ (let n = short walk high p entry size s in let z : _≡_ {A = ℕ} 0 1 = cc in absurd (omega arith))
+        | inl s ↦ (let n = short walk high p entry size (s .four) in let z : _≡_ {A = ℕ} 0 1 = cc in absurd (omega arith))
         | inr (inl e) ↦ (let z : _≡_ {A = ℕ} 0 1 = cc in absurd (omega arith))
         | inr (inr e) ↦ e ∙ l ∙ v
       ]

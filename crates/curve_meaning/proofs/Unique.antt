@@ -1,14 +1,17 @@
 -- One call, one answer: a result is determined by the numbers that it stands for, and those by the meaning.
 -- Assumes nothing.
-use mathlib.Core.Path.{_≡_, refl, ap}
+use mathlib.Core.Path.{_≡_, refl, sym, ap, _∙_}
 use mathlib.Core.List.{List}
 use Prim.Native.Nat.{ℕ}
 use lib.ListN.{getD}
 use Rattle.fields.proofs.Numbers.{nameOf, named}
 use Rattle.fields.proofs.Once.{once}
-use Rattle.curve_meaning.specs.Answer.{Answer, value, absent, refused, paper}
+use Rattle.curve_meaning.specs.Answer.{Answer, value, absent, refused, paper, Going, on, stop, goingFrom, Went}
+use Rattle.curve_meaning.specs.Shape.{Seen}
 use Rattle.curve_meaning.specs.declared.CurveAnswer.{CurveAnswer}
 use Rattle.curve_meaning.specs.declared.CurveRecord.{CurveRecord}
+use Rattle.curve_meaning.specs.declared.Step.{Step}
+use Rattle.curve_meaning.specs.declared.Walk.{Walk}
 
 -- the result that stands for an answer
 abbrev recordFrom : List ℕ → CurveRecord
@@ -39,3 +42,21 @@ back (CurveAnswer.Refused why) = ap CurveAnswer.Refused (named why)
 -- two results that stand for the same answer are one
 pub unique : (a : Answer) (r s : CurveAnswer) → paper r ≡ a → paper s ≡ a → r ≡ s
 unique = once paper resultFrom back
+
+-- ---- the step of `judge_curve` and `write_curve`
+
+abbrev stepFrom : Going → Step
+stepFrom (on n) = Step.On n
+stepFrom (stop n) = Step.Refused (nameOf n)
+
+step-back : (r : Step) → stepFrom (goingFrom r) ≡ r
+step-back (Step.On n) = refl
+step-back (Step.Refused why) = ap Step.Refused (named why)
+
+-- two steps that go on alike, or stop with the same number, are one
+pub step-unique : (g : Going) (r s : Step) → goingFrom r ≡ g → goingFrom s ≡ g → r ≡ s
+step-unique = once goingFrom stepFrom step-back
+
+-- two calls of `write_curve` on the same curve and slot have the same step and leave the same slot
+pub went-once : {walk : Walk} {start : ℕ} {x : Seen} {r q : Step} {slot after other : List ℕ} → Went walk start x r slot after → Went walk start x q slot other → (r ≡ q) × (after ≡ other)
+went-once {r = r} {q = q} w v = (step-unique _ r q (w .going-is) (v .going-is), w .slot-is ∙ sym (v .slot-is))

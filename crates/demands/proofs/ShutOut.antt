@@ -1,7 +1,7 @@
 -- The wrong readers break a demand, each by one small call: an empty curve, a table of two entries, an `XYZ ` tag, and the `mAB ` tag of the
 -- worked cases.
 -- Assumes nothing.
-use Prim.Native.Nat.{ℕ, _*_}
+use Prim.Native.Nat.{ℕ, _+_, _*_}
 use native.Mathlib.Omega.{arith}
 use mathlib.Core.Path.{_≡_, refl, ap, _∙_}
 use mathlib.Core.List.{List, [], _∷_, _++_}
@@ -13,6 +13,7 @@ use Rattle.icc.specs.Numbers.{each16, each32, Each32, NextMultipleOf4}
 use Rattle.icc.specs.Small.{eachXyz, xyzType}
 use Rattle.fields.specs.Tag.{signatureOf}
 use Rattle.curve_meaning.specs.Cases.{none, two}
+use Rattle.curve_meaning.specs.Shape.{Shape, empty, table, para, sizeOf, wordsOf}
 use Rattle.curve_meaning.specs.Standard.{Fits, toldOf, Tag}
 use Rattle.curve_meaning.specs.declared.Walk.the-variants.{Crate, Book}
 use Rattle.run.specs.Run.{Each}
@@ -25,9 +26,9 @@ use Rattle.lut_meaning.specs.declared.LutAnswer.{LutAnswer}
 use Rattle.lut_meaning.proofs.Conforms.{written-records}
 use Rattle.small_meaning.specs.Standard.{SomeXyz}
 use Rattle.demands.specs.Readers.{lut, Call, Library, Promised, says}
-use Rattle.demands.specs.Demands.{Demand1, Demand2}
+use Rattle.demands.specs.Demands.{tag, curveAt, Demand1, Demand2}
 use Rattle.demands.specs.Cases.{Holds, call, lone}
-use Rattle.demands.specs.Wrong.{refusesAll, alwaysDefault, alwaysIdentity, unwritten, copied, madeUp, tooEarly, copies, oneCurve, ShutOut}
+use Rattle.demands.specs.Wrong.{refusesAll, alwaysDefault, alwaysIdentity, unwritten, copied, madeUp, tooEarly, zeroed, copies, oneCurve, ShutOut}
 use Rattle.demands.proofs.Cases.{claim}
 use Rattle.demands.proofs.Ends.{ends-so}
 
@@ -181,6 +182,23 @@ written-too-early l p d =
     let e : _≡_ {A = ℕ} 0 7 = ap (λ (ws : List ℕ). getD ws 0 0) (simp read at (d .refusal-leaves-slots (lut Book) c 14 refused-14)) in
     omega (arith, e)
 
+-- the second word of a record tells where its data start, 12 bytes behind the curve's offset
+start-told : (start : ℕ) (s : Shape) → getD (wordsOf start s) 1 0 ≡ start
+unfolding wordsOf
+start-told start empty = refl
+start-told start (table n) = refl
+start-told start (para type ps) = refl
+
+-- so it is no zero
+records-zeroed : (l : Library) → Promised l → Demand1 (zeroed l) → ⊥
+unfolding Each Holds recordsNeeded present deviceChannels spaceChannels aCurves mCurves bCurves signatureOf
+records-zeroed l p d =
+    let c : Call = call threeCurves 72 (slots 3) in
+    let said = p .answers (lut Book) c ∙ claim .1 .1 .1 .1 .1 .1 .1 .1 .1 .1 .1 .0 in
+    let first = d .abm-inside Book c _ (ap (λ (a : Lut·Answer). a .state) said) .curves-in-tag 0 (omega arith) in
+    let e : 0 ≡ curveAt Book c 0 .at + 12 = ap (λ (ws : List ℕ). getD ws 1 0) (first .record-is) ∙ start-told _ (curveAt Book c 0 .shape) in
+    omega (arith, e)
+
 pub shut-out : (l : Library) → ShutOut l
 shut-out l =
     record {
@@ -191,4 +209,5 @@ shut-out l =
       first-copied = first-copied l;
       count-made-up = count-made-up l;
       written-too-early = written-too-early l;
+      records-zeroed = records-zeroed l;
     }

@@ -1,25 +1,33 @@
 -- Demand 3 of every library that keeps the contracts: bytes, limits and slots each alone, along the readers' own theorems, then together.
 -- Assumes nothing.
-use Prim.Native.Nat.{ℕ, _+_, _/_, _≤_}
+use Prim.Native.Nat.{ℕ, _+_, _/_, _≤_, _<_}
 use native.Mathlib.Omega.{arith}
 use mathlib.Core.Path.{_≡_, refl, sym, ap, subst, _∙_}
+use mathlib.Core.Bool.{Bool, true, false}
 use mathlib.Core.List.{List, [], _++_, append-nil, append-assoc}
 use mathlib.Core.Logic.{_⊎_, inl, inr}
 use lib.Dec.{ltb, eqb}
 use lib.ListN.{length, drop, length-append}
 use lib.Seq.{drop-append-le}
-use borrow.Author.Tests.{ltb-false}
+use borrow.Author.Tests.{ltb-true, ltb-false}
 use Rattle.fields.specs.Bytes.{u32At}
 use Rattle.fields.specs.Place.{countedSize}
 use Rattle.fields.specs.Tag.{signatureOf}
 use Rattle.fields.specs.declared.Kind.the-variants.{Text, Mluc, Desc}
 use Rattle.fields.proofs.Choice.{each}
 use Rattle.fields.proofs.Grow.{Grows}
+use Rattle.curve_meaning.specs.Answer.{Answer as Curve·Answer}
+use Rattle.curve_meaning.specs.Curve.{trcOf}
 use Rattle.curve_meaning.specs.declared.Walk.{Walk}
-use Rattle.curve_meaning.proofs.More.{short, more-bytes as curve-bytes, more-limit as curve-limit}
-use Rattle.lut_meaning.specs.Answer.{State, mft, abm, absent as State·absent, refused as State·refused}
+use Rattle.curve_meaning.proofs.Last.{trc-not-14}
+use Rattle.curve_meaning.proofs.More.{Is as Curve·Is, short, more-bytes as curve-bytes, more-limit as curve-limit}
+use Rattle.lut_meaning.specs.Answer.{State, mft, abm, absent as State·absent, refused as State·refused, Answer as Lut·Answer}
+use Rattle.lut_meaning.specs.Lut.{lutOf}
 use Rattle.lut_meaning.proofs.Accepted.{IsValue}
-use Rattle.lut_meaning.proofs.More.{more-bytes as lut-bytes, more-limits as lut-limits, more-slots as lut-slots, value-stays as lut-stays}
+use Rattle.lut_meaning.proofs.Last.{fourteen-behind as lut-fourteen, enough as lut-enough}
+use Rattle.lut_meaning.proofs.More.{Is as Lut·Is, more-bytes as lut-bytes, more-limit as lut-limit, more-points as lut-points, more-slots as lut-slots, value-stays as lut-stays}
+use Rattle.small_meaning.specs.Answer.{Answer as Small·Answer}
+use Rattle.small_meaning.proofs.Last.{chad-not-14, sig-not-14, date-not-14, meas-not-14, view-not-14, xyz-not-14, cicp-not-14}
 use Rattle.small_meaning.proofs.More.{Past, chad-more, sig-more, date-more, meas-more, view-more, xyz-more, cicp-more}
 use Rattle.text_meaning.specs.Answer.{Answer as Text·Answer, leftBy as Text·leftBy}
 use Rattle.text_meaning.specs.Layout.{asciiEnd}
@@ -27,10 +35,11 @@ use Rattle.text_meaning.specs.Mluc.{End, whole, stopped, header, string as stri
 use Rattle.text_meaning.specs.Text.{textOf, descOf, slottedOf, endedBy, mlucOf, byType, stringOf, tagOf as Text·tagOf}
 use Rattle.text_meaning.proofs.Conforms.{Taken, accepted}
 use Rattle.text_meaning.proofs.Found.{Value}
+use Rattle.text_meaning.proofs.Last.{fourteen-behind as text-fourteen, enough as text-enough}
 use Rattle.text_meaning.proofs.More.{more-bytes as text-bytes, more-slots as text-slots, value-stays as text-stays}
 use Rattle.text_meaning.proofs.Shared.{words-length}
 use Rattle.demands.specs.Readers.{Small, chad, sig, date, meas, view, xyz, cicp, Reader, lut, trc, string, small, Call, smallOf, meaning, left, Outcome, value, default, absent, refused, outcome, lutOutcome, curveOutcome, smallOutcome, textOutcome, Library, ends, Promised}
-use Rattle.demands.specs.Demands.{tag, appended, raised, lent, Same, ByBytes, ByLimits, BySlots, Demand3, given}
+use Rattle.demands.specs.Demands.{tag, appended, raised, lent, Same, ByBytes, ByLimits, BySlots, wordsAsked, Demand3, given}
 use Rattle.demands.proofs.Ends.{Spares, left-spared, ends-so}
 use Rattle.demands.proofs.Second.{unique}
 
@@ -51,7 +60,7 @@ by-bytes (lut walk) c q = elim (lut-bytes walk (c .entries) (c .points) (c .prof
   | inr e ↦ inr e
 ]
 by-bytes (trc walk) c q = elim (curve-bytes walk (c .entries) (c .profile) q (c .entry) (c .size)) [
-  | inl s ↦ inl (inr (refl, ap curveOutcome (short walk (c .entries) (c .profile) (c .entry) (c .size) s), s))
+  | inl s ↦ inl (inr (refl, ap curveOutcome (short walk (c .entries) (c .profile) (c .entry) (c .size) (s .four)), s .four, s .sized))
   | inr (inl e) ↦ inl (inl (ap curveOutcome e))
   | inr (inr e) ↦ inr e
 ]
@@ -64,14 +73,25 @@ by-bytes (small s) c q = elim (small-grows s (c .profile) q (c .entry) (c .size)
   | inr e ↦ inr e
 ]
 
-by-limits : (r : Reader) (c : Call) (entries points : ℕ) → c .entries ≤ entries → c .points ≤ points → ByLimits (outcome r (meaning r c)) ⊎ (meaning r (raised entries points c) ≡ meaning r c)
-by-limits (lut walk) c entries points h k = elim (lut-limits walk (c .entries) entries h (c .points) points k (c .profile) (c .entry) (c .size) (length (c .slots))) [
-  | inl (inl e) ↦ inl (inl (ap lutOutcome e))
-  | inl (inr e) ↦ inl (inr (ap lutOutcome e))
-  | inr e ↦ inr e
+-- a limit that is not raised changes nothing
+by-limit : {A : Type 0} (Loose : A → Type 0) (answer : ℕ → A) (low high : ℕ) → low ≤ high → Grows Loose (answer low) (answer high) → ((low < high) × Loose (answer low)) ⊎ (answer high ≡ answer low)
+by-limit Loose answer low high h (inr e) = inr e
+by-limit Loose answer low high h (inl e) = by (ltb low high) refl
+  where
+    by : (b : Bool) → ltb low high ≡ b → ((low < high) × Loose (answer low)) ⊎ (answer high ≡ answer low)
+    by true l = inl (ltb-true low high l, e)
+    by false l = let same : high ≡ low = omega (arith, ltb-false low high l) in inr (ap answer same)
+
+by-limits : (r : Reader) (c : Call) (entries points : ℕ) → c .entries ≤ entries → c .points ≤ points → ByLimits c entries points (outcome r (meaning r c)) ⊎ (meaning r (raised entries points c) ≡ meaning r c)
+by-limits (lut walk) c entries points h k = elim (by-limit (Lut·Is 10) (λ n. lutOf walk n (c .points) (c .profile) (c .entry) (c .size) (length (c .slots))) (c .entries) entries h (lut-limit walk (c .entries) entries h (c .points) (c .profile) (c .entry) (c .size) (length (c .slots)))) [
+  | inl e ↦ inl (inl (e .0, ap lutOutcome (e .1)))
+  | inr e ↦ elim (by-limit (Lut·Is 16) (λ n. lutOf walk entries n (c .profile) (c .entry) (c .size) (length (c .slots))) (c .points) points k (lut-points walk entries (c .points) points k (c .profile) (c .entry) (c .size) (length (c .slots)))) [
+    | inl f ↦ inl (inr (f .0, ap lutOutcome (ap (λ (a : Lut·Answer). a .state) (sym e) ∙ f .1)))
+    | inr f ↦ inr (f ∙ e)
+  ]
 ]
-by-limits (trc walk) c entries points h k = elim (curve-limit walk (c .entries) entries (c .profile) (c .entry) (c .size) h) [
-  | inl e ↦ inl (inl (ap curveOutcome e))
+by-limits (trc walk) c entries points h k = elim (by-limit (Curve·Is 10) (λ n. trcOf walk n (c .profile) (c .entry) (c .size)) (c .entries) entries h (curve-limit walk (c .entries) entries (c .profile) (c .entry) (c .size) h)) [
+  | inl e ↦ inl (inl (e .0, ap curveOutcome (e .1)))
   | inr e ↦ inr e
 ]
 by-limits string c entries points h k = inr refl
@@ -91,6 +111,68 @@ by-slots string c x = elim (text-slots (length (c .slots)) (length (c .slots ++ 
   | inr e ↦ inr e
 ]
 by-slots (small s) c x = inr refl
+
+-- ---- refusal 14 comes last
+
+lut-valued : (s : State) → IsValue s → lutOutcome s ≡ value
+unfolding IsValue
+lut-valued (mft f) v = refl
+lut-valued (abm f) v = refl
+lut-valued State·absent v = absurd v
+lut-valued (State·refused n) v = absurd v
+
+lut-refused : (s : State) (n : ℕ) → lutOutcome s ≡ refused n → s ≡ State·refused n
+lut-refused (mft f) n e = let z : _≡_ {A = ℕ} 0 1 = cc in absurd (omega arith)
+lut-refused (abm f) n e = let z : _≡_ {A = ℕ} 0 1 = cc in absurd (omega arith)
+lut-refused State·absent n e = let z : _≡_ {A = ℕ} 0 1 = cc in absurd (omega arith)
+lut-refused (State·refused m) n e = let same : m ≡ n = cc in ap State·refused same
+
+curve-refused : (a : Curve·Answer) (n : ℕ) → curveOutcome a ≡ refused n → a ≡ Curve·Answer.refused n
+curve-refused (Curve·Answer.value ws k) n e = let z : _≡_ {A = ℕ} 0 1 = cc in absurd (omega arith)
+curve-refused Curve·Answer.absent n e = let z : _≡_ {A = ℕ} 0 1 = cc in absurd (omega arith)
+curve-refused (Curve·Answer.refused m) n e = let same : m ≡ n = cc in ap Curve·Answer.refused same
+
+small-refused : (a : Small·Answer) (n : ℕ) → smallOutcome a ≡ refused n → a ≡ Small·Answer.refused n
+small-refused (Small·Answer.value ws) n e = let z : _≡_ {A = ℕ} 0 1 = cc in absurd (omega arith)
+small-refused Small·Answer.default n e = let z : _≡_ {A = ℕ} 0 1 = cc in absurd (omega arith)
+small-refused Small·Answer.absent n e = let z : _≡_ {A = ℕ} 0 1 = cc in absurd (omega arith)
+small-refused (Small·Answer.refused m) n e = let same : m ≡ n = cc in ap Small·Answer.refused same
+
+small-not-14 : (s : Small) (p : List ℕ) (entry size : ℕ) → smallOf s p entry size ≡ Small·Answer.refused 14 → ⊥
+small-not-14 chad = chad-not-14
+small-not-14 sig = sig-not-14
+small-not-14 date = date-not-14
+small-not-14 meas = meas-not-14
+small-not-14 view = view-not-14
+small-not-14 xyz = xyz-not-14
+small-not-14 cicp = cicp-not-14
+
+text-refused : (a : Text·Answer) (n : ℕ) → textOutcome a ≡ refused n → a ≡ Text·Answer.refused n
+text-refused (Text·Answer.text s) n e = let z : _≡_ {A = ℕ} 0 1 = cc in absurd (omega arith)
+text-refused (Text·Answer.desc s u) n e = let z : _≡_ {A = ℕ} 0 1 = cc in absurd (omega arith)
+text-refused (Text·Answer.mluc k) n e = let z : _≡_ {A = ℕ} 0 1 = cc in absurd (omega arith)
+text-refused Text·Answer.absent n e = let z : _≡_ {A = ℕ} 0 1 = cc in absurd (omega arith)
+text-refused (Text·Answer.refused m) n e = let same : m ≡ n = cc in ap Text·Answer.refused same
+
+record Fourteen (r : Reader) (c : Call) : Type 0 where
+  short : length (c .slots) < wordsAsked r c
+  last : (x : List ℕ) → wordsAsked r c ≤ length (c .slots ++ x) → outcome r (meaning r (lent x c)) ≡ value
+
+fourteen : (r : Reader) (c : Call) → outcome r (meaning r c) ≡ refused 14 → Fourteen r c
+fourteen (lut walk) c h =
+    let w = lut-fourteen walk (c .entries) (c .points) (c .profile) (c .entry) (c .size) (length (c .slots)) (lut-refused (meaning (lut walk) c .state) 14 h) in
+    record {
+      short = omega (arith, w .few);
+      last = λ x room. lut-valued _ (lut-enough walk (c .entries) (c .points) (c .profile) (c .entry) (c .size) (length (c .slots)) w (length (c .slots ++ x)) (omega (arith, room)));
+    }
+fourteen (trc walk) c h = absurd (trc-not-14 walk (c .entries) (c .profile) (c .entry) (c .size) (curve-refused (meaning (trc walk) c) 14 h))
+fourteen string c h =
+    let w = text-fourteen (c .profile) (c .entry) (c .size) (length (c .slots)) (text-refused (meaning string c) 14 h) in
+    record {
+      short = omega (arith, w .few);
+      last = λ x room. ap textOutcome (text-enough (c .profile) (c .entry) (c .size) (length (c .slots)) w (length (c .slots ++ x)) (omega (arith, room)));
+    }
+fourteen (small s) c h = absurd (small-not-14 s (c .profile) (c .entry) (c .size) (small-refused (meaning (small s) c) 14 h))
 
 -- ---- the slots
 
@@ -181,12 +263,12 @@ left-stays r c q entries points x h k e = by (outcome r (meaning r c)) refl
 -- ---- of a library that keeps the contracts
 
 -- a value and a default are not of the kind that may change
-fixed : (r : Reader) (c : Call) (o : Outcome) → (o ≡ absent → ⊥) → ((n : ℕ) → o ≡ refused n → ⊥) → ByBytes r c o ⊎ ByLimits o ⊎ BySlots o → ⊥
-fixed r c o a b (inl (inl e)) = b _ e
-fixed r c o a b (inl (inr e)) = a (e .1)
-fixed r c o a b (inr (inl (inl e))) = b _ e
-fixed r c o a b (inr (inl (inr e))) = b _ e
-fixed r c o a b (inr (inr e)) = b _ e
+fixed : (r : Reader) (c : Call) (entries points : ℕ) (o : Outcome) → (o ≡ absent → ⊥) → ((n : ℕ) → o ≡ refused n → ⊥) → ByBytes r c o ⊎ ByLimits c entries points o ⊎ BySlots o → ⊥
+fixed r c entries points o a b (inl (inl e)) = b _ e
+fixed r c entries points o a b (inl (inr e)) = a (e .1)
+fixed r c entries points o a b (inr (inl (inl e))) = b _ (e .1)
+fixed r c entries points o a b (inr (inl (inr e))) = b _ (e .1)
+fixed r c entries points o a b (inr (inr e)) = b _ e
 
 module _ (l : Library) (p : Promised l) where
   same : (r : Reader) (c d : Call) (x : List ℕ) → meaning r d ≡ meaning r c → left r d ≡ left r c ++ x → Same l r c d x
@@ -206,9 +288,9 @@ module _ (l : Library) (p : Promised l) where
     | inr e ↦ inr (alone r c (appended q c) q (c .entries) (c .points) [] (omega arith) (omega arith) (λ i. record { profile = c .profile ++ q; entry = c .entry; size = c .size; entries = c .entries; points = c .points; slots = append-nil (c .slots) i }) e)
   ]
 
-  limits : (r : Reader) (c : Call) (entries points : ℕ) → c .entries ≤ entries → c .points ≤ points → ByLimits (ends l r c) ⊎ Same l r c (raised entries points c) []
+  limits : (r : Reader) (c : Call) (entries points : ℕ) → c .entries ≤ entries → c .points ≤ points → ByLimits c entries points (ends l r c) ⊎ Same l r c (raised entries points c) []
   limits r c entries points h k = elim (by-limits r c entries points h k) [
-    | inl e ↦ inl (subst ByLimits (sym (ends-so l p r c)) e)
+    | inl e ↦ inl (subst (ByLimits c entries points) (sym (ends-so l p r c)) e)
     | inr e ↦ inr (alone r c (raised entries points c) [] entries points [] h k (λ i. record { profile = append-nil (c .profile) i; entry = c .entry; size = c .size; entries = entries; points = points; slots = append-nil (c .slots) i }) e)
   ]
 
@@ -218,13 +300,19 @@ module _ (l : Library) (p : Promised l) where
     | inr e ↦ inr (alone r c (lent x c) [] (c .entries) (c .points) x (omega arith) (omega arith) (λ i. record { profile = append-nil (c .profile) i; entry = c .entry; size = c .size; entries = c .entries; points = c .points; slots = c .slots ++ x }) e)
   ]
 
-  all : (r : Reader) (c : Call) (q : List ℕ) (entries points : ℕ) (x : List ℕ) → c .entries ≤ entries → c .points ≤ points → (ByBytes r c (ends l r c) ⊎ ByLimits (ends l r c) ⊎ BySlots (ends l r c)) ⊎ Same l r c (given q entries points x c) x
+  fourteen-short : (r : Reader) (c : Call) → ends l r c ≡ refused 14 → length (c .slots) < wordsAsked r c
+  fourteen-short r c h = fourteen r c (sym (ends-so l p r c) ∙ h) .short
+
+  fourteen-last : (r : Reader) (c : Call) (x : List ℕ) → ends l r c ≡ refused 14 → wordsAsked r c ≤ length (c .slots ++ x) → ends l r (lent x c) ≡ value
+  fourteen-last r c x h room = ends-so l p r (lent x c) ∙ fourteen r c (sym (ends-so l p r c) ∙ h) .last x room
+
+  all : (r : Reader) (c : Call) (q : List ℕ) (entries points : ℕ) (x : List ℕ) → c .entries ≤ entries → c .points ≤ points → (ByBytes r c (ends l r c) ⊎ ByLimits c entries points (ends l r c) ⊎ BySlots (ends l r c)) ⊎ Same l r c (given q entries points x c) x
   all r c q entries points x h k =
       let said = sym (ends-so l p r c) in
       elim (by-bytes r c q) [
         | inl e ↦ inl (inl (subst (ByBytes r c) said e))
         | inr e ↦ elim (by-limits r (appended q c) entries points h k) [
-          | inl f ↦ inl (inr (inl (subst ByLimits (ap (outcome r) e ∙ said) f)))
+          | inl f ↦ inl (inr (inl (subst (ByLimits c entries points) (ap (outcome r) e ∙ said) f)))
           | inr f ↦ elim (by-slots r (raised entries points (appended q c)) x) [
             | inl g ↦ inl (inr (inr (subst BySlots (ap (outcome r) (f ∙ e) ∙ said) g)))
             | inr g ↦ inr (alone r c _ q entries points x h k refl (g ∙ f ∙ e))
@@ -235,7 +323,7 @@ module _ (l : Library) (p : Promised l) where
   -- what is not of the kind that may change stays
   stays : (r : Reader) (c : Call) (q : List ℕ) (entries points : ℕ) (x : List ℕ) → c .entries ≤ entries → c .points ≤ points → (ends l r c ≡ absent → ⊥) → ((n : ℕ) → ends l r c ≡ refused n → ⊥) → Same l r c (given q entries points x c) x
   stays r c q entries points x h k a b = elim (all r c q entries points x h k) [
-    | inl e ↦ absurd (fixed r c (ends l r c) a b e)
+    | inl e ↦ absurd (fixed r c entries points (ends l r c) a b e)
     | inr s ↦ s
   ]
 
@@ -245,6 +333,8 @@ module _ (l : Library) (p : Promised l) where
         bytes = bytes;
         limits = limits;
         slots = slots;
+        fourteen-short = fourteen-short;
+        fourteen-last = fourteen-last;
         all = all;
         value-stays = λ r c q entries points x h k e. stays r c q entries points x h k (λ f. let z : _≡_ {A = ℕ} 0 1 = cc in absurd (omega arith)) (λ n f. let z : _≡_ {A = ℕ} 0 1 = cc in absurd (omega arith));
         default-stays = λ r c q entries points x h k e. stays r c q entries points x h k (λ f. let z : _≡_ {A = ℕ} 0 1 = cc in absurd (omega arith)) (λ n f. let z : _≡_ {A = ℕ} 0 1 = cc in absurd (omega arith));

@@ -3,7 +3,7 @@
 use Prim.Native.Nat.{ℕ, _+_, _*_, _/_, _^_, _≤_, _<_}
 use mathlib.Core.Path.{_≡_}
 use mathlib.Core.Bool.{Bool, true, false, cond, _&&_}
-use mathlib.Core.List.{List, [], _++_}
+use mathlib.Core.List.{List, [], _∷_, _++_}
 use mathlib.Core.Logic.{_⊎_}
 use lib.Dec.{ltb}
 use lib.ListN.{length, getD, take, drop, replicate}
@@ -12,23 +12,27 @@ use Rattle.icc.specs.Elements.{LutParts, LutTag}
 use Rattle.icc.specs.Numbers.{Is32, Each16, Each32, Bytes}
 use Rattle.icc.specs.Small.{DateTime, dateTimeNumber, s15Fixed16ArrayType, signatureType, dateTimeType, measurementType, viewingConditionsType, cicpType}
 use Rattle.icc.specs.Tables.{Lut, nine, Sized, Entries16, lut16Type, lut8Type}
+use Rattle.fields.specs.Bytes.{u16At, u32At, wordsAt}
 use Rattle.fields.specs.Place.{tagAt, countedSize}
-use Rattle.clut_meaning.specs.Table.{Table, inGrid, numberOf}
+use Rattle.fields.specs.Tag.{signatureOf}
+use Rattle.fields.specs.declared.Kind.the-variants.{Sig, Dtim, Meas, View, Xyz, Cicp, Mab, Mba, Mft1, Mft2}
+use Rattle.clut_meaning.specs.Table.{Table, inGrid, numberOf, lengthOf}
 use Rattle.curve_meaning.specs.Answer.{Answer as Curve·Answer}
 use Rattle.curve_meaning.specs.Curve.{tagOf as Curve·tagOf}
-use Rattle.curve_meaning.specs.Shape.{recordWords}
+use Rattle.curve_meaning.specs.Shape.{Shape, empty, wordsOf, stepOf, recordWords}
 use Rattle.curve_meaning.specs.Standard.{Fits, toldOf, stepTold, Tag, Lone}
 use Rattle.curve_meaning.specs.declared.Walk.{Walk}
-use Rattle.run.specs.Run.{dataEnd}
+use Rattle.run.specs.Run.{Placed, placed, Stands, recordsOf, dataEnd}
 use Rattle.mft_meaning.specs.Answer.{Fields, toldTable as Mft·toldTable}
 use Rattle.mft_meaning.specs.Standard.{told16, told8, Taken as MftTaken, Begins16, Begins8}
 use Rattle.lut_meaning.specs.Abm.{toldTable as Abm·toldTable}
-use Rattle.lut_meaning.specs.Answer.{mft, abm, Abm, State}
-use Rattle.lut_meaning.specs.Layout.{matrixOffset}
+use Rattle.lut_meaning.specs.Answer.{mft, abm, Abm, State, Answer as Lut·Answer}
+use Rattle.lut_meaning.specs.Layout.{planOf, recordsNeeded}
+use Rattle.lut_meaning.specs.Parts.{curvesOf}
 use Rattle.lut_meaning.specs.Standard.{Counts, told, recordsWritten, PartsTaken, CurvesTaken, PartsAs, TagAs, PassesBy}
 use Rattle.text_meaning.specs.Answer.{Answer as Text·Answer, Span, span, Unicode}
 use Rattle.text_meaning.specs.Layout.{textStart, asciiStart, asciiEnd, unicodeLanguage}
-use Rattle.text_meaning.specs.Mluc.{Localized, recordWords as textWords, wordsIn}
+use Rattle.text_meaning.specs.Mluc.{Localized, recordsAsked, recordWords as textWords, wordsIn}
 use Rattle.text_meaning.specs.Standard.{TextType, TextDescriptionType, MultiLocalizedUnicodeType, TextTaken, DescriptionTaken, RecordsTaken, unicodeRange}
 use Rattle.small_meaning.specs.Answer.{Answer as Small·Answer}
 use Rattle.small_meaning.specs.Standard.{signatureTold, someXyzType, firstTold, measurementTold, viewTold, cicpTold, WrittenRead, ReadWritten, BeginsNine, BeginsDate}
@@ -60,18 +64,74 @@ abbrev pub IndexInside : Table → ℕ → Type 0
 IndexInside table bytes =
     (index : List ℕ) (channel : ℕ) → Valid table index channel → numberOf table index channel * table .size + table .size ≤ bytes
 
--- an accepted `mAB ` or `mBA `, with the slots as they are left. Without a colour table an entry has no bytes
-pub record AbmInside (c : Call) (slots grid : List ℕ) (f : Abm) : Type 0 where
-  pub tag-in-profile : TagInside c
-  pub curves-in-tag : (k : ℕ) → k < f .a + f .m + f .b → dataEnd (drop (k * recordWords) slots) ≤ length (tag c)
-  pub matrix-in-tag : (matrixOffset (tag c) ≡ 0) ⊎ (matrixOffset (tag c) + 48 ≤ length (tag c))
-  pub table-in-tag : f .start + f .bytes ≤ length (tag c)
-  pub index-in-table : 1 ≤ f .size → IndexInside (Abm·toldTable grid f) (f .bytes)
+-- curve k of those that a walk meets in the tag, A, M and B in turn, and record k in the slots
+abbrev pub curveAt : Walk → Call → ℕ → Placed
+curveAt walk c k = getD (curvesOf walk (c .entries) (tag c) (planOf (tag c))) k (placed 0 empty)
 
--- an accepted `mft1` or `mft2`
-pub record MftInside (c : Call) (f : Fields) : Type 0 where
+abbrev pub recordIn : List ℕ → ℕ → List ℕ
+recordIn slots k = take recordWords (drop (k * recordWords) slots)
+
+-- the words are the record of the curve, which stands in the tag t, and the data that they tell of end there
+pub record CurveInside (limit : ℕ) (t words : List ℕ) (curve : Placed) : Type 0 where
+  pub record-is : words ≡ wordsOf (curve .at + 12) (curve .shape)
+  pub stands : Stands limit t curve
+  pub data-in-tag : dataEnd words ≤ length t
+
+-- byte 16 gives no offset of a matrix: the answer has the identity and no bias
+pub record NoMatrix (t : List ℕ) (answer : Lut·Answer) : Type 0 where
+  pub not-there : u32At t 16 ≡ 0
+  pub matrix-is : answer .matrix ≡ 65536 ∷ 0 ∷ 0 ∷ 0 ∷ 65536 ∷ 0 ∷ 0 ∷ 0 ∷ 65536 ∷ []
+  pub bias-is : answer .bias ≡ 0 ∷ 0 ∷ 0 ∷ []
+
+-- or it gives one: the answer has the nine numbers that stand there, and the three behind them
+pub record MatrixInside (t : List ℕ) (answer : Lut·Answer) : Type 0 where
+  pub there : u32At t 16 ≡ 0 → ⊥
+  pub in-tag : u32At t 16 + 48 ≤ length t
+  pub matrix-is : answer .matrix ≡ wordsAt t (u32At t 16) 9
+  pub bias-is : answer .bias ≡ wordsAt t (u32At t 16 + 36) 3
+
+-- byte 24 gives no offset of a colour table: the answer has no grid and no data
+pub record NoGrid (t : List ℕ) (answer : Lut·Answer) (f : Abm) : Type 0 where
+  pub not-there : u32At t 24 ≡ 0
+  pub grid-is : answer .grid ≡ replicate 16 0
+  pub start-is : f .start ≡ 0
+  pub bytes-are : f .bytes ≡ 0
+  pub size-is : f .size ≡ 0
+
+-- or it gives one: the answer has the sixteen grid bytes that stand there, the bytes of an entry behind them, and data that start 20 bytes on
+pub record GridInside (t : List ℕ) (answer : Lut·Answer) (f : Abm) : Type 0 where
+  pub there : u32At t 24 ≡ 0 → ⊥
+  pub in-tag : u32At t 24 + 20 ≤ length t
+  pub grid-is : answer .grid ≡ take 16 (drop (u32At t 24) t)
+  pub start-is : f .start ≡ u32At t 24 + 20
+  pub size-is : f .size ≡ getD t (u32At t 24 + 16) 0
+
+-- 'mAB ' leads towards the connection space, 'mBA ' away from it
+abbrev pub Direction : List ℕ → Bool → Type 0
+Direction t toPcs =
+    ((u32At t 0 ≡ signatureOf Mab) × (toPcs ≡ true)) ⊎ ((u32At t 0 ≡ signatureOf Mba) × (toPcs ≡ false))
+
+-- an accepted `mAB ` or `mBA `: its answer, whose numbers are f, and the slots as they are left. Without a colour table an entry has no bytes
+pub record AbmInside (walk : Walk) (c : Call) (answer : Lut·Answer) (f : Abm) (slots : List ℕ) : Type 0 where
   pub tag-in-profile : TagInside c
+  pub direction-is : Direction (tag c) (f .toPcs)
+  pub inputs-are : f .inputs ≡ getD (tag c) 8 0
+  pub outputs-are : f .outputs ≡ getD (tag c) 9 0
+  pub curves-in-tag : (k : ℕ) → k < f .a + f .m + f .b → CurveInside (c .entries) (tag c) (recordIn slots k) (curveAt walk c k)
+  pub matrix-in-tag : NoMatrix (tag c) answer ⊎ MatrixInside (tag c) answer
+  pub grid-in-tag : NoGrid (tag c) answer f ⊎ GridInside (tag c) answer f
+  pub table-in-tag : f .start + f .bytes ≤ length (tag c)
+  pub index-in-table : 1 ≤ f .size → IndexInside (Abm·toldTable (answer .grid) f) (f .bytes)
+
+-- an accepted `mft1` or `mft2`, whose entries have one byte or two; no sixteen grid bytes, and no bias
+pub record MftInside (c : Call) (answer : Lut·Answer) (f : Fields) : Type 0 where
+  pub tag-in-profile : TagInside c
+  pub type-is : ((u32At (tag c) 0 ≡ signatureOf Mft1) × (f .size ≡ 1)) ⊎ ((u32At (tag c) 0 ≡ signatureOf Mft2) × (f .size ≡ 2))
+  pub numbers-are : (f .inputs ≡ getD (tag c) 8 0) × (f .outputs ≡ getD (tag c) 9 0) × (f .grid ≡ getD (tag c) 10 0)
   pub matrix-in-tag : 12 + 36 ≤ length (tag c)
+  pub matrix-is : answer .matrix ≡ wordsAt (tag c) 12 9
+  pub no-grid : answer .grid ≡ replicate 16 0
+  pub no-bias : answer .bias ≡ replicate 3 0
   pub input-in-tag : f .inputStart + f .inputBytes ≤ length (tag c)
   pub table-in-tag : f .clutStart + f .clutBytes ≤ length (tag c)
   pub output-in-tag : f .outputStart + f .outputBytes ≤ length (tag c)
@@ -81,12 +141,19 @@ pub record MftInside (c : Call) (f : Fields) : Type 0 where
 abbrev pub SpanInside : Call → Span → Type 0
 SpanInside c s = s .start + s .bytes ≤ length (tag c)
 
--- accepted text; of `mluc` the range of each record, by its words
+-- the words are the record of header k of `mluc`, 12 bytes in the tag: language, country, where the string starts and how long it is, an odd
+-- last byte left out; and the string ends in the tag
+pub record LocalizedInside (t words : List ℕ) (k : ℕ) : Type 0 where
+  pub header-in-tag : 16 + 12 * k + 12 ≤ length t
+  pub record-is : let at = 16 + 12 * k in words ≡ u16At t at ∷ u16At t (at + 2) ∷ u32At t (at + 8) ∷ u32At t (at + 4) / 2 * 2 ∷ []
+  pub string-in-tag : getD words 2 0 + getD words 3 0 ≤ length t
+
+-- accepted text
 abbrev pub TextInside : Call → List ℕ → Text·Answer → Type 0
 TextInside c slots (Text·Answer.text s) = TagInside c × SpanInside c s
 TextInside c slots (Text·Answer.desc s u) = TagInside c × SpanInside c s × SpanInside c (u .string)
 TextInside c slots (Text·Answer.mluc n) =
-    TagInside c × ((k : ℕ) → k < n → let words = drop (k * textWords) slots in getD words 2 0 + getD words 3 0 ≤ length (tag c))
+    TagInside c × ((k : ℕ) → k < n → LocalizedInside (tag c) (take textWords (drop (k * textWords) slots)) k)
 TextInside c slots Text·Answer.absent = Unit
 TextInside c slots (Text·Answer.refused n) = Unit
 
@@ -100,6 +167,22 @@ FieldsInside view c = (36 ≤ c .size) × (c .entry + 36 ≤ length (c .profile)
 FieldsInside xyz c = (20 ≤ c .size) × (c .entry + 20 ≤ length (c .profile))
 FieldsInside cicp c = (12 ≤ c .size) × (c .entry + 12 ≤ length (c .profile))
 
+-- a profile with the same bytes there. The date's are the profile's first 20, and the tag's first four tell its type
+abbrev pub SameFields : Small → Call → List ℕ → Type 0
+SameFields chad c p = tagAt p (c .entry) 44 ≡ tagAt (c .profile) (c .entry) 44
+SameFields sig c p = tagAt p (c .entry) 12 ≡ tagAt (c .profile) (c .entry) 12
+SameFields date c p =
+    (tagAt p 0 20 ≡ tagAt (c .profile) 0 20) × (tagAt p (c .entry) 4 ≡ tagAt (c .profile) (c .entry) 4)
+SameFields meas c p = tagAt p (c .entry) 36 ≡ tagAt (c .profile) (c .entry) 36
+SameFields view c p = tagAt p (c .entry) 36 ≡ tagAt (c .profile) (c .entry) 36
+SameFields xyz c p = tagAt p (c .entry) 20 ≡ tagAt (c .profile) (c .entry) 20
+SameFields cicp c p = tagAt p (c .entry) 12 ≡ tagAt (c .profile) (c .entry) 12
+
+-- the same call on another profile
+abbrev pub onProfile : List ℕ → Call → Call
+onProfile p c =
+    record { profile = p; entry = c .entry; size = c .size; entries = c .entries; points = c .points; slots = c .slots }
+
 -- every call ends with a value, a default, an absence or a numbered refusal. That it ends, and stays inside its slices, is each function's
 -- own proof, in proofs/F/Proof.antt of its crate
 pub record Demand1 (l : Library) : Type 0 where
@@ -107,13 +190,16 @@ pub record Demand1 (l : Library) : Type 0 where
   -- a refusal leaves lent slots untouched, and so does an absence
   pub refusal-leaves-slots : (r : Reader) (c : Call) (n : ℕ) → ends l r c ≡ refused n → l .leaves r c ≡ c .slots
   pub absence-leaves-slots : (r : Reader) (c : Call) → ends l r c ≡ absent → l .leaves r c ≡ c .slots
-  -- in an accepted lookup table each curve, matrix and table lies inside its tag, and each valid index reads inside the colour table
-  pub abm-inside : (walk : Walk) (c : Call) (f : Abm) → says l (lut walk) c .state ≡ abm f → AbmInside c (l .leaves (lut walk) c) (says l (lut walk) c .grid) f
-  pub mft-inside : (walk : Walk) (c : Call) (f : Fields) → says l (lut walk) c .state ≡ mft f → MftInside c f
+  -- in an accepted lookup table each curve, matrix and table lies inside its tag, the answer has them as they stand there, and each valid
+  -- index reads inside the colour table
+  pub abm-inside : (walk : Walk) (c : Call) (f : Abm) → says l (lut walk) c .state ≡ abm f → AbmInside walk c (says l (lut walk) c) f (l .leaves (lut walk) c)
+  pub mft-inside : (walk : Walk) (c : Call) (f : Fields) → says l (lut walk) c .state ≡ mft f → MftInside c (says l (lut walk) c) f
   -- and what the other readers accept
   pub curve-inside : (walk : Walk) (c : Call) (words : List ℕ) (consumed : ℕ) → says l (trc walk) c ≡ Curve·Answer.value words consumed → (dataEnd words ≤ length (curveTag c)) × (c .entry + c .size ≤ length (c .profile))
   pub text-inside : (c : Call) → TextInside c (l .leaves string c) (says l string c)
   pub fields-inside : (s : Small) (c : Call) → ends l (small s) c ≡ value → FieldsInside s c
+  -- no byte of the profile but those of the fields matters to a small reader's value
+  pub fields-alone : (s : Small) (c : Call) (p : List ℕ) → ends l (small s) c ≡ value → length (c .profile) ≤ length p → SameFields s c p → says l (small s) (onProfile p c) ≡ says l (small s) c
 
 -- ---- demand 2, its proved half
 
@@ -235,25 +321,39 @@ isTrc (small s) = false
 abbrev pub pastProfile : Reader → ℕ
 pastProfile r = cond (isTrc r) 11 1
 
--- what may change with more bytes, by how the call ended: that refusal, and the tone curve's absence for want of four bytes
+-- what may change with more bytes, by how the call ended: that refusal, and the tone curve's absence for want of four bytes, but not one by
+-- a size of 1 to 11
 abbrev pub ByBytes : Reader → Call → Outcome → Type 0
-ByBytes r c o = (o ≡ refused (pastProfile r)) ⊎ ((isTrc r ≡ true) × (o ≡ absent) × (length (c .profile) < c .entry + 4))
+ByBytes r c o =
+    (o ≡ refused (pastProfile r))
+    ⊎ ((isTrc r ≡ true) × (o ≡ absent) × (length (c .profile) < c .entry + 4) × ((c .size ≡ 0) ⊎ (12 ≤ c .size)))
 
--- with higher limits, and with more slots
-abbrev pub ByLimits : Outcome → Type 0
-ByLimits o = (o ≡ refused 10) ⊎ (o ≡ refused 16)
+-- with higher limits: refusal 10 if that of entries is, and refusal 16 if that of points is
+abbrev pub ByLimits : Call → ℕ → ℕ → Outcome → Type 0
+ByLimits c entries points o = ((c .entries < entries) × (o ≡ refused 10)) ⊎ ((c .points < points) × (o ≡ refused 16))
 
+-- and with more slots
 abbrev pub BySlots : Outcome → Type 0
 BySlots o = o ≡ refused 14
+
+-- the words that the records of a tag take: ten for each curve, four for each record of `mluc`
+abbrev pub wordsAsked : Reader → Call → ℕ
+wordsAsked (lut walk) c = recordsNeeded (tag c) * recordWords
+wordsAsked (trc walk) c = 0
+wordsAsked string c = recordsAsked (tag c) * textWords
+wordsAsked (small s) c = 0
 
 -- giving more never spoils a good answer
 pub record Demand3 (l : Library) : Type 0 where
   -- alone
   pub bytes : (r : Reader) (c : Call) (q : List ℕ) → ByBytes r c (ends l r c) ⊎ Same l r c (appended q c) []
-  pub limits : (r : Reader) (c : Call) (entries points : ℕ) → c .entries ≤ entries → c .points ≤ points → ByLimits (ends l r c) ⊎ Same l r c (raised entries points c) []
+  pub limits : (r : Reader) (c : Call) (entries points : ℕ) → c .entries ≤ entries → c .points ≤ points → ByLimits c entries points (ends l r c) ⊎ Same l r c (raised entries points c) []
   pub slots : (r : Reader) (c : Call) (x : List ℕ) → BySlots (ends l r c) ⊎ Same l r c (lent x c) x
+  -- refusal 14 comes last: the slots do not hold the records, and a call that is lent enough ends with a value
+  pub fourteen-short : (r : Reader) (c : Call) → ends l r c ≡ refused 14 → length (c .slots) < wordsAsked r c
+  pub fourteen-last : (r : Reader) (c : Call) (x : List ℕ) → ends l r c ≡ refused 14 → wordsAsked r c ≤ length (c .slots ++ x) → ends l r (lent x c) ≡ value
   -- together
-  pub all : (r : Reader) (c : Call) (q : List ℕ) (entries points : ℕ) (x : List ℕ) → c .entries ≤ entries → c .points ≤ points → (ByBytes r c (ends l r c) ⊎ ByLimits (ends l r c) ⊎ BySlots (ends l r c)) ⊎ Same l r c (given q entries points x c) x
+  pub all : (r : Reader) (c : Call) (q : List ℕ) (entries points : ℕ) (x : List ℕ) → c .entries ≤ entries → c .points ≤ points → (ByBytes r c (ends l r c) ⊎ ByLimits c entries points (ends l r c) ⊎ BySlots (ends l r c)) ⊎ Same l r c (given q entries points x c) x
   -- so a value stays, and a default
   pub value-stays : (r : Reader) (c : Call) (q : List ℕ) (entries points : ℕ) (x : List ℕ) → c .entries ≤ entries → c .points ≤ points → ends l r c ≡ value → Same l r c (given q entries points x c) x
   pub default-stays : (r : Reader) (c : Call) (q : List ℕ) (entries points : ℕ) (x : List ℕ) → c .entries ≤ entries → c .points ≤ points → ends l r c ≡ default → Same l r c (given q entries points x c) x

@@ -1,5 +1,5 @@
 -- Wrong readers, each made of a library by one fault, and the sentence that they are shut out.
-use Prim.Native.Nat.{ℕ, zero, suc}
+use Prim.Native.Nat.{ℕ, zero, suc, _*_}
 use mathlib.Core.List.{List, [], _++_}
 use lib.ListN.{length, take, drop, replicate}
 use Rattle.fields.specs.declared.Refusal.{Refusal}
@@ -137,6 +137,19 @@ writtenIn (small s) c = c .slots
 abbrev pub tooEarly : Library → Library
 tooEarly l = record { returns = l .returns; leaves = writtenIn; reads = l .reads }
 
+-- ---- one that writes zeros for the records
+
+abbrev pub zerosIn : Reader → Call → List ℕ
+zerosIn (lut walk) c =
+    let records : List ℕ = replicate (recordsNeeded (tag c) * recordWords) 0 in
+    records ++ drop (length records) (c .slots)
+zerosIn (trc walk) c = c .slots
+zerosIn string c = left string c
+zerosIn (small s) c = c .slots
+
+abbrev pub zeroed : Library → Library
+zeroed l = record { returns = l .returns; leaves = zerosIn; reads = l .reads }
+
 -- ---- none of them is admitted, whatever library it was made of
 
 pub record ShutOut (l : Library) : Type 0 where
@@ -151,3 +164,5 @@ pub record ShutOut (l : Library) : Type 0 where
   pub count-made-up : Demand2 (madeUp l) → ⊥
   -- by `refusal-leaves-slots`
   pub written-too-early : Promised l → Demand1 (tooEarly l) → ⊥
+  -- by `curves-in-tag`
+  pub records-zeroed : Promised l → Demand1 (zeroed l) → ⊥

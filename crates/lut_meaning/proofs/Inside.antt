@@ -8,27 +8,27 @@ use mathlib.Core.Bool.{Bool, true, false, cond}
 use mathlib.Core.List.{List, [], _∷_, _++_}
 use mathlib.Core.Logic.{_⊎_, inl, inr}
 use lib.Dec.{ltb, eqb}
-use lib.ListN.{length, take, drop, replicate}
+use lib.ListN.{length, getD, take, drop, replicate}
 use lib.Seq.{take-take}
-use borrow.Author.Tests.{ltb-false, eqb-true}
+use borrow.Author.Tests.{ltb-false, eqb-true, eqb-false, eq-eqb, ne-eqb}
 use Rattle.fields.specs.Place.{countedSize}
-use Rattle.fields.specs.Bytes.{bytesAt}
+use Rattle.fields.specs.Bytes.{u32At, bytesAt, wordsAt}
+use Rattle.fields.specs.Tag.{signatureOf}
+use Rattle.fields.specs.declared.Kind.the-variants.{Mab, Mba}
 use Rattle.fields.proofs.Words.{bytes-part}
 use Rattle.clut_meaning.specs.Clut.{is, clutOf}
 use Rattle.clut_meaning.specs.Table.{Table, lengthOf, inGrid, numberOf}
 use Rattle.clut_meaning.proofs.Accepted.{accepted as laid-out}
 use Rattle.clut_meaning.proofs.Grid.{entry-below}
 use Rattle.clut_meaning.proofs.Inside.{inside}
-use Rattle.curve_meaning.specs.Shape.{recordWords}
 use Rattle.curve_meaning.specs.declared.Walk.{Walk}
-use Rattle.mft_meaning.specs.Answer.{Fields}
+use Rattle.mft_meaning.specs.Answer.{Fields, answerOf}
 use Rattle.mft_meaning.proofs.Inside.{Inside as MftInside, inside as inside-mft}
-use Rattle.run.specs.Run.{Placed, endOf, recordsOf, dataEnd, Each}
-use Rattle.run.proofs.Records.{records-end}
+use Rattle.run.specs.Run.{Placed, Stands, Each}
 use Rattle.run.proofs.Runs.{run-inside}
 use Rattle.lut_meaning.specs.Abm.{noTable, tableOf, valueFrom, toldTable, abmOf}
-use Rattle.lut_meaning.specs.Answer.{Abm, mft, abm, Answer, leftBy}
-use Rattle.lut_meaning.specs.Layout.{recordsNeeded, inputs, outputs, matrixOffset, clutOffset, aOffset, mOffset, bOffset, aCurves, mCurves, bCurves, planOf, gridOf}
+use Rattle.lut_meaning.specs.Answer.{Abm, mft, abm, Answer}
+use Rattle.lut_meaning.specs.Layout.{recordsNeeded, toPcs, inputs, outputs, matrixOffset, clutOffset, aOffset, mOffset, bOffset, aCurves, mCurves, bCurves, planOf, identity, matrixOf, biasOf, gridOf}
 use Rattle.lut_meaning.specs.Lut.{tagOf, lutOf}
 use Rattle.lut_meaning.specs.Parts.{curvesOf, matrixJudged}
 use Rattle.lut_meaning.specs.Judged.{good, bad}
@@ -40,8 +40,8 @@ unfolding Each
 each-append P [] m x y = y
 each-append P (c ∷ k) m x y = (x .0, each-append P k m (x .1) y)
 
--- every curve that a walk meets lies in the tag
-pub curves-inside : (walk : Walk) (limit : ℕ) (t : List ℕ) → Each (λ c. endOf c ≤ length t) (curvesOf walk limit t (planOf t))
+-- every curve that a walk meets stands in the tag
+pub curves-inside : (walk : Walk) (limit : ℕ) (t : List ℕ) → Each (Stands limit t) (curvesOf walk limit t (planOf t))
 unfolding curvesOf planOf
 curves-inside walk limit t =
     each-append _ _ _ (each-append _ _ _ (run-inside walk limit t (aOffset t) (aCurves t)) (run-inside walk limit t (mOffset t) (mCurves t))) (run-inside walk limit t (bOffset t) (bCurves t))
@@ -55,6 +55,21 @@ matrix-inside t = by (eqb (matrixOffset t) 0) refl (ltb (length t) (matrixOffset
     by true e c f h = inl (eqb-true (matrixOffset t) 0 e)
     by false e true f h = let z : _≡_ {A = ℕ} 0 1 = cc in absurd (omega arith)
     by false e false f h = inr (ltb-false (length t) (matrixOffset t + 48) f)
+
+-- a matrix and a bias that are answered: none, or those that stand there
+abbrev pub MatrixTold : List ℕ → List ℕ → List ℕ → Type 0
+MatrixTold t matrix bias =
+    ((matrixOffset t ≡ 0) × (matrix ≡ identity) × (bias ≡ replicate 3 0))
+    ⊎ ((matrixOffset t ≡ 0 → ⊥) × (matrixOffset t + 48 ≤ length t) × (matrix ≡ wordsAt t (matrixOffset t) 9) × (bias ≡ wordsAt t (matrixOffset t + 36) 3))
+
+pub matrix-told : (t : List ℕ) → matrixJudged t ≡ good → MatrixTold t (matrixOf t) (biasOf t)
+unfolding matrixOf biasOf
+matrix-told t g = by (eqb (matrixOffset t) 0) refl (matrix-inside t g)
+  where
+    by : (b : Bool) → eqb (matrixOffset t) 0 ≡ b → (matrixOffset t ≡ 0) ⊎ (matrixOffset t + 48 ≤ length t) → MatrixTold t (cond b identity (wordsAt t (matrixOffset t) 9)) (cond b (replicate 3 0) (wordsAt t (matrixOffset t + 36) 3))
+    by true e h = inl (eqb-true (matrixOffset t) 0 e, refl, refl)
+    by false e (inl z) = absurd (eqb-false (matrixOffset t) 0 e z)
+    by false e (inr l) = inr (eqb-false (matrixOffset t) 0 e, l, refl, refl)
 
 -- the data of a table that is there lie in the tag, and one that is not has none
 pub table-inside : (t : List ℕ) (table : Table) → tableOf t ≡ is table → table .start + lengthOf table ≤ length t
@@ -74,6 +89,22 @@ grid-inside t table h =
     let a = laid-out t (clutOffset t) (inputs t) (outputs t) table h .laid in
     omega (arith, a .whole, a .start-is)
 
+-- a table and grid bytes that are answered: none, or the sixteen bytes in front of the table, with the bytes of an entry behind them
+abbrev pub GridTold : List ℕ → Table → List ℕ → Type 0
+GridTold t table grid =
+    ((clutOffset t ≡ 0) × (table ≡ noTable) × (grid ≡ replicate 16 0))
+    ⊎ ((clutOffset t ≡ 0 → ⊥) × (table .start ≡ clutOffset t + 20) × (table .size ≡ getD t (clutOffset t + 16) 0) × (grid ≡ take 16 (drop (clutOffset t) t)))
+
+pub grid-told : (t : List ℕ) (table : Table) → tableOf t ≡ is table → GridTold t table (gridOf t)
+unfolding tableOf gridOf
+grid-told t table = by (eqb (clutOffset t) 0) refl
+  where
+    by : (b : Bool) → eqb (clutOffset t) 0 ≡ b → cond b (is noTable) (clutOf t (clutOffset t) (inputs t) (outputs t)) ≡ is table → GridTold t table (cond b (replicate 16 0) (bytesAt t (clutOffset t) 16))
+    by true e h = let same : table ≡ noTable = cc in inl (eqb-true (clutOffset t) 0 e, same, refl)
+    by false e h =
+        let a = laid-out t (clutOffset t) (inputs t) (outputs t) table h .laid in
+        inr (eqb-false (clutOffset t) 0 e, a .start-is, a .size-is, bytes-part t (clutOffset t) 16 (grid-inside t table h))
+
 -- a table that is there has the grid and the output channels that are answered
 table-told : (t : List ℕ) (table : Table) → tableOf t ≡ is table → 1 ≤ table .size → (take (min (inputs t) 16) (gridOf t) ≡ table .grid) × (outputs t ≡ table .outputs)
 unfolding tableOf gridOf
@@ -89,23 +120,46 @@ table-told t table = by (eqb (clutOffset t) 0)
 told-length : (grid : List ℕ) (f : Abm) (table : Table) → take (min (f .inputs) 16) grid ≡ table .grid → f .outputs ≡ table .outputs → f .size ≡ table .size → lengthOf (toldTable grid f) ≡ lengthOf table
 told-length grid f table a b c = rw (a, b, c) refl
 
--- ---- `mAB ` and `mBA `, told of the answer's own numbers
-pub record Inside (walk : Walk) (limit : ℕ) (p : List ℕ) (entry size : ℕ) (grid : List ℕ) (f : Abm) : Type 0 where
-  pub tag-in-profile : entry + countedSize size ≤ length p
-  pub curves-in-tag : Each (λ c. endOf c ≤ length (tagOf p entry size)) (curvesOf walk limit (tagOf p entry size) (planOf (tagOf p entry size)))
-  pub records-in-tag : (slots : List ℕ) (k : ℕ) → k < f .a + f .m + f .b → dataEnd (drop (k * recordWords) (leftBy (abm f) (recordsOf (curvesOf walk limit (tagOf p entry size) (planOf (tagOf p entry size)))) slots)) ≤ length (tagOf p entry size)
-  pub matrix-in-tag : (matrixOffset (tagOf p entry size) ≡ 0) ⊎ (matrixOffset (tagOf p entry size) + 48 ≤ length (tagOf p entry size))
-  pub table-in-tag : f .start + f .bytes ≤ length (tagOf p entry size)
-  pub entry-in-table : 1 ≤ f .size → (index : List ℕ) (channel : ℕ) → inGrid (toldTable grid f .grid) index ≡ true → channel < f .outputs → numberOf (toldTable grid f) index channel * f .size + f .size ≤ f .bytes
+-- a direction that is answered: that of the type
+abbrev pub DirectionTold : List ℕ → Bool → Type 0
+DirectionTold t direction =
+    ((u32At t 0 ≡ signatureOf Mab) × (direction ≡ true)) ⊎ ((u32At t 0 ≡ signatureOf Mba) × (direction ≡ false))
 
-pub lut-inside : (walk : Walk) (limit points : ℕ) (p : List ℕ) (entry size words : ℕ) (f : Abm) → lutOf walk limit points p entry size words .state ≡ abm f → Inside walk limit p entry size (lutOf walk limit points p entry size words .grid) f
+other-type : signatureOf Mba ≡ signatureOf Mab → ⊥
+unfolding signatureOf
+other-type e = omega arith
+
+pub direction-told : (t : List ℕ) → (u32At t 0 ≡ signatureOf Mab) ⊎ (u32At t 0 ≡ signatureOf Mba) → DirectionTold t (toPcs t)
+direction-told t (inl e) = inl (e, eq-eqb (u32At t 0) (signatureOf Mab) e)
+direction-told t (inr e) = inr (e, ne-eqb (u32At t 0) (signatureOf Mab) (λ z. other-type (sym e ∙ z)))
+
+-- ---- `mAB ` and `mBA `, told of the answer's own numbers
+pub record Inside (walk : Walk) (limit : ℕ) (p : List ℕ) (entry size : ℕ) (a : Answer) (f : Abm) : Type 0 where
+  pub tag-in-profile : entry + countedSize size ≤ length p
+  pub curves-in-tag : Each (Stands limit (tagOf p entry size)) (curvesOf walk limit (tagOf p entry size) (planOf (tagOf p entry size)))
+  pub curves-counted : length (curvesOf walk limit (tagOf p entry size) (planOf (tagOf p entry size))) ≡ f .a + f .m + f .b
+  pub direction-is : DirectionTold (tagOf p entry size) (f .toPcs)
+  pub inputs-are : f .inputs ≡ inputs (tagOf p entry size)
+  pub outputs-are : f .outputs ≡ outputs (tagOf p entry size)
+  pub matrix-is : MatrixTold (tagOf p entry size) (a .matrix) (a .bias)
+  pub table : Table
+  pub grid-is : GridTold (tagOf p entry size) table (a .grid)
+  pub start-is : f .start ≡ table .start
+  pub bytes-are : f .bytes ≡ lengthOf table
+  pub size-is : f .size ≡ table .size
+  pub table-in-tag : f .start + f .bytes ≤ length (tagOf p entry size)
+  pub entry-in-table : 1 ≤ f .size → (index : List ℕ) (channel : ℕ) → inGrid (toldTable (a .grid) f .grid) index ≡ true → channel < f .outputs → numberOf (toldTable (a .grid) f) index channel * f .size + f .size ≤ f .bytes
+
+pub lut-inside : (walk : Walk) (limit points : ℕ) (p : List ℕ) (entry size words : ℕ) (f : Abm) → lutOf walk limit points p entry size words .state ≡ abm f → Inside walk limit p entry size (lutOf walk limit points p entry size words) f
 unfolding valueFrom recordsNeeded
 lut-inside walk limit points p entry size words f h =
     let t : List ℕ = tagOf p entry size in
     let w = abm-found walk limit points p entry size words f h in
     let g : abmOf walk limit t words .state ≡ abm f = ap (λ (a : Answer). a .state) (sym (w .as-abm)) ∙ h in
     let v = w .behind in
+    let said = w .as-abm ∙ v .answer-is in
     let e : abm f ≡ valueFrom t (v .table .start) (lengthOf (v .table)) (v .table .size) .state = sym g ∙ ap (λ (a : Answer). a .state) (v .answer-is) in
+    let e₀ : f .toPcs ≡ toPcs t = cc in
     let e₁ : f .start ≡ v .table .start = cc in
     let e₂ : f .bytes ≡ lengthOf (v .table) = cc in
     let e₃ : f .size ≡ v .table .size = cc in
@@ -115,7 +169,7 @@ lut-inside walk limit points p entry size words f h =
     let e₇ : f .m ≡ mCurves t = cc in
     let e₈ : f .b ≡ bCurves t = cc in
     let grid : List ℕ = lutOf walk limit points p entry size words .grid in
-    let g₁ : grid ≡ gridOf t = ap (λ (a : Answer). a .grid) (w .as-abm ∙ v .answer-is) in
+    let g₁ : grid ≡ gridOf t = ap (λ (a : Answer). a .grid) said in
     let told : 1 ≤ f .size → lengthOf (toldTable grid f) ≡ f .bytes =
     λ l. let k = table-told t (v .table) (v .table-is) (omega (arith, e₃)) in
     let same : take (min (f .inputs) 16) grid ≡ take (min (inputs t) 16) (gridOf t) = cc in
@@ -123,15 +177,24 @@ lut-inside walk limit points p entry size words f h =
     record {
       tag-in-profile = w .tag-in-profile;
       curves-in-tag = curves-inside walk limit t;
-      records-in-tag = λ slots k l. records-end (length t) (curvesOf walk limit t (planOf t)) _ (curves-inside walk limit t) k (omega (arith, l, e₆, e₇, e₈, needed-curves walk limit t (v .runs-good)));
-      matrix-in-tag = matrix-inside t (v .matrix-good);
+      curves-counted = omega (arith, e₆, e₇, e₈, needed-curves walk limit t (v .runs-good));
+      direction-is = rw e₀ (direction-told t (w .type-is));
+      inputs-are = e₄;
+      outputs-are = e₅;
+      matrix-is = rw said (matrix-told t (v .matrix-good));
+      table = v .table;
+      grid-is = rw said (grid-told t (v .table) (v .table-is));
+      start-is = e₁;
+      bytes-are = e₂;
+      size-is = e₃;
       table-in-tag = omega (arith, e₁, e₂, table-inside t (v .table) (v .table-is));
       entry-in-table = λ l index channel valid low. omega (arith, entry-below (toldTable grid f) index channel valid low, told l);
     }
 
 -- ---- `mft1` and `mft2`
 
-pub mft-inside : (walk : Walk) (limit points : ℕ) (p : List ℕ) (entry size words : ℕ) (f : Fields) → lutOf walk limit points p entry size words .state ≡ mft f → (entry + countedSize size ≤ length p) × MftInside (tagOf p entry size) f
+pub mft-inside : (walk : Walk) (limit points : ℕ) (p : List ℕ) (entry size words : ℕ) (f : Fields) → lutOf walk limit points p entry size words .state ≡ mft f → (entry + countedSize size ≤ length p) × MftInside (tagOf p entry size) f × (lutOf walk limit points p entry size words ≡ record { state = mft f; grid = replicate 16 0; matrix = wordsAt (tagOf p entry size) 12 9; bias = replicate 3 0 })
+unfolding answerOf
 mft-inside walk limit points p entry size words f h =
     let w = mft-found walk limit points p entry size words f h in
-    (w .tag-in-profile, inside-mft points (tagOf p entry size) f (w .read-as))
+    (w .tag-in-profile, inside-mft points (tagOf p entry size) f (w .read-as), w .as-mft ∙ rw (w .read-as))

@@ -4,5 +4,6 @@ pub mod Unique
 pub mod Needed
 pub mod Inside
 pub mod More
+pub mod Last
 pub mod Conforms
 pub mod Cases

@@ -7,7 +7,11 @@ use native.Mathlib.Nat.{le-trans, mul-le-mul, pow-le-pow-left, pow-le-pow-right}
 use mathlib.Core.Path.{_≡_, refl}
 use mathlib.Core.Bool.{Bool, true, false, cond}
 use mathlib.Core.List.{List}
+use mathlib.Core.Logic.{_⊎_, inl, inr}
 use lib.ListN.{length}
+use Rattle.fields.specs.Bytes.{u32At}
+use Rattle.fields.specs.Tag.{signatureOf}
+use Rattle.fields.specs.declared.Kind.the-variants.{Mft1, Mft2}
 use Rattle.clut_meaning.specs.Table.{pointsOf, lengthOf, inGrid, numberOf}
 use Rattle.clut_meaning.proofs.Grid.{entry-below, power-is}
 use Rattle.mft_meaning.specs.Answer.{Fields, value, fieldsOf, toldTable}
@@ -15,7 +19,17 @@ use Rattle.mft_meaning.specs.Layout.{isWide, inputs, outputs, gridPoints
 use Rattle.mft_meaning.specs.Mft.{mftOf}
 use Rattle.mft_meaning.proofs.Accepted.{accepted, start-least}
 
+-- the type tells the bytes of an entry
+type-told : (t : List ℕ) → (u32At t 0 ≡ signatureOf Mft1) ⊎ (u32At t 0 ≡ signatureOf Mft2) → ((u32At t 0 ≡ signatureOf Mft1) × (entrySize t ≡ 1)) ⊎ ((u32At t 0 ≡ signatureOf Mft2) × (entrySize t ≡ 2))
+unfolding entrySize isWide signatureOf
+type-told t (inl e) = inl (e, rw e refl)
+type-told t (inr e) = inr (e, rw e refl)
+
 pub record Inside (t : List ℕ) (f : Fields) : Type 0 where
+  pub type-is : ((u32At t 0 ≡ signatureOf Mft1) × (f .size ≡ 1)) ⊎ ((u32At t 0 ≡ signatureOf Mft2) × (f .size ≡ 2))
+  pub inputs-are : f .inputs ≡ inputs t
+  pub outputs-are : f .outputs ≡ outputs t
+  pub points-are : f .grid ≡ gridPoints t
   pub matrix-in-tag : 12 + 4 * 9 ≤ length t
   pub input-in-tag : f .inputStart + f .inputBytes ≤ length t
   pub clut-in-tag : f .clutStart + f .clutBytes ≤ length t
@@ -31,6 +45,10 @@ inside limit t f h =
     let whole = a .laid .whole in
     let bytes : lengthOf (toldTable f) ≡ f .clutBytes = rw e refl in
     record {
+      type-is = rw e (type-told t (a .laid .type-is));
+      inputs-are = rw e;
+      outputs-are = rw e;
+      points-are = rw e;
       matrix-in-tag = omega (arith, start-least t, whole);
       input-in-tag = rw e (omega (arith, whole));
       clut-in-tag = rw e (omega (arith, whole));

@@ -12,7 +12,7 @@ use Rattle.curve_meaning.specs.Curve.{curveOf}
 use Rattle.curve_meaning.specs.Shape.{Shape, Seen, is, no, sizeOf, stepOf}
 use Rattle.curve_meaning.specs.declared.Walk.{Walk}
 use Rattle.curve_meaning.proofs.Inside.{curve-inside}
-use Rattle.run.specs.Run.{Placed, whole, Ran, placed, done, stops, first, raised, entryAt, follow, runAt, endOf, Each}
+use Rattle.run.specs.Run.{Placed, whole, Ran, placed, done, stops, first, raised, entryAt, follow, runAt, Stands, Each}
 
 -- a curve that is seen at an offset of the tag is what the bytes there say, and 12 of them there are
 pub entry-there : (limit : ℕ) (t : List ℕ) (at : ℕ) (s : Shape) → entryAt limit t at ≡ is s → (at + 12 ≤ length t) × (curveOf limit (drop at t) ≡ is s)
@@ -70,11 +70,16 @@ module _ (walk : Walk) (limit : ℕ) (t : List ℕ) where
       (λ at n m e h. let z : _≡_ {A = ℕ} 0 1 = cc in absurd (omega arith))
       (λ at n s e ih h. ap suc (ih h)) n at
 
-  -- demand 1: every curve's bytes lie inside the tag
-  reads-inside : (at : ℕ) (cs : List Placed) → Reads at cs → Each (λ c. endOf c ≤ length t) cs
+  -- demand 1: every curve stands in the tag
+  curve-stands : (c : Placed) → entryAt limit t (c .at) ≡ is (c .shape) → Stands limit t c
+  curve-stands c e =
+      let w = entry-there limit t (c .at) (c .shape) e in
+      record { begins-in-tag = w .0; said = w .1; ends-in-tag = entry-inside limit t (c .at) (c .shape) e }
+
+  reads-inside : (at : ℕ) (cs : List Placed) → Reads at cs → Each (Stands limit t) cs
   unfolding Reads Each
   reads-inside at [] h = tt
-  reads-inside at (c ∷ cs) h = (rw (h .0) (entry-inside limit t at (c .shape) (h .1)), reads-inside (raised (at + stepOf walk (c .shape))) cs (h .2))
+  reads-inside at (c ∷ cs) h = (curve-stands c (rw (h .0) (h .1)), reads-inside (raised (at + stepOf walk (c .shape))) cs (h .2))
 
-  pub run-inside : (at n : ℕ) → Each (λ c. endOf c ≤ length t) (runAt walk limit t at n .curves)
+  pub run-inside : (at n : ℕ) → Each (Stands limit t) (runAt walk limit t at n .curves)
   run-inside at n = reads-inside at (runAt walk limit t at n .curves) (run-reads at n)

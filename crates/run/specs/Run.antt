@@ -1,5 +1,6 @@
 -- A run of curves in a tag: the curves that a walk meets, each with its place, and how the run ends.
-use Prim.Native.Nat.{ℕ, zero, suc, _+_, _*_, _/_}
+use Prim.Native.Nat.{ℕ, zero, suc, _+_, _*_, _/_, _≤_}
+use mathlib.Core.Path.{_≡_}
 use mathlib.Core.Bool.{cond}
 use mathlib.Core.List.{List, [], _∷_, _++_}
 use lib.Dec.{ltb, eqb}
@@ -57,6 +58,12 @@ runAt walk limit t at (suc n) = follow at (entryAt limit t at) (λ s. runAt walk
 -- the first byte behind a curve
 abbrev pub endOf : Placed → ℕ
 endOf c = c .at + sizeOf (c .shape)
+
+-- a curve stands in the tag: its first 12 bytes lie there, the bytes from its offset on say it, and it ends there
+pub record Stands (limit : ℕ) (t : List ℕ) (c : Placed) : Type 0 where
+  pub begins-in-tag : c .at + tagSize ≤ length t
+  pub said : curveOf limit (drop (c .at) t) ≡ is (c .shape)
+  pub ends-in-tag : endOf c ≤ length t
 
 -- the records of curves, one behind the other
 unfoldable pub recordsOf : List Placed → List ℕ

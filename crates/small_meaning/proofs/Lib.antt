@@ -1,6 +1,8 @@
 pub mod Order
 pub mod Unique
 pub mod More
+pub mod Last
+pub mod Alone
 pub mod Accepted
 pub mod Inside
 pub mod Conforms

@@ -3,16 +3,18 @@
 -- Assumes nothing.
 use Prim.Native.Nat.{ℕ, zero, suc, _+_, _*_, _≤_, _<_}
 use native.Mathlib.Omega.{arith}
-use mathlib.Core.Path.{_≡_}
+use native.Mathlib.Nat.{zero-add, add-zero}
+use mathlib.Core.Path.{_≡_, refl}
 use mathlib.Core.Bool.{Bool, true, false, cond}
 use mathlib.Core.List.{List, [], _∷_, _++_}
 use mathlib.Core.Logic.{_⊎_, inl, inr}
-use lib.Dec.{eqb}
-use lib.ListN.{length, getD, drop}
+use lib.Dec.{ltb, eqb}
+use lib.ListN.{length, take, drop}
+use borrow.Author.Tests.{ltb-false}
 use Rattle.fields.specs.Place.{countedSize}
 use Rattle.text_meaning.specs.Answer.{Answer, text, desc, mluc, absent, refused, Span, span, nowhere, Unicode, leftBy}
-use Rattle.text_meaning.specs.Layout.{asciiEnd, unicodeCount, unicodeStart}
-use Rattle.text_meaning.specs.Mluc.{Localized, even, recordsFrom, recordsAsked, recordsIn, recordWords, wordsIn}
+use Rattle.text_meaning.specs.Layout.{asciiEnd, unicodeCount, unicodeStart, headerEnd, stringEnd}
+use Rattle.text_meaning.specs.Mluc.{Localized, header, string, is, no, Ran, first, localizedAt, recordAt, follow, recordsFrom, recordsAsked, recordsIn, recordWords, wordsOf, wordsIn}
 use Rattle.text_meaning.specs.Standard.{Row, UnicodeTaken, UnicodeShort, RecordTaken}
 use Rattle.text_meaning.specs.Text.{tagOf, stringOf}
 use Rattle.text_meaning.proofs.Conforms.{Taken, read-row, accepted}
@@ -24,10 +26,6 @@ use Rattle.text_meaning.proofs.Found.{Value}
 abbrev pub endOf : Span → ℕ
 endOf s = s .start + s .bytes
 
--- and behind the string of a record, by its words
-abbrev pub wordsEnd : List ℕ → ℕ
-wordsEnd words = getD words 2 0 + getD words 3 0
-
 unicode-inside : (t : List ℕ) (at : ℕ) (u : Unicode) → UnicodeTaken t at u ⊎ UnicodeShort t at u → endOf (u .string) ≤ length t
 unicode-inside t at u (inl h) = rw (h .answer-is) (by (eqb (unicodeCount t at) 0))
   where
@@ -38,18 +36,29 @@ unicode-inside t at u (inr h) = rw (h .answer-is) (omega arith)
 
 -- ---- records
 
-record-inside : (t : List ℕ) (k : ℕ) (r : Localized) → RecordTaken t k r → r .start + r .bytes ≤ length t
-unfolding even
-record-inside t k r h = rw (h .is) (omega (arith, h .string-in-tag))
+-- the words are those of header k, which lies in the tag, and so does its string
+pub record ReadAt (t : List ℕ) (k : ℕ) (words : List ℕ) : Type 0 where
+  pub record-is : words ≡ wordsOf (localizedAt t k)
+  pub header-in-tag : headerEnd k ≤ length t
+  pub string-in-tag : stringEnd t k ≤ length t
 
--- record k of those in front of the slots
-pub row-inside : (t : List ℕ) (at : ℕ) (rs : List Localized) (rest : List ℕ) → Row (RecordTaken t) at rs → (k : ℕ) → k < length rs → wordsEnd (drop (k * recordWords) (wordsIn rs ++ rest)) ≤ length t
-unfolding Row wordsIn
-row-inside t at [] rest h k l = absurd (omega arith)
-row-inside t at (r ∷ rs) rest h zero l = record-inside t at r (h .0)
-row-inside t at (r ∷ rs) rest h (suc k) l =
-    let e : suc k * recordWords ≡ suc (suc (suc (suc (k * recordWords)))) = omega arith in
-    rw e (row-inside t (at + 1) rs rest (h .1) k (omega arith))
+-- record k of those that are read from header `at` on, in front of whatever else
+pub record-at : (t rest : List ℕ) (n at k : ℕ) → k < length (recordsFrom t at n .records) → ReadAt t (at + k) (take recordWords (drop (k * recordWords) (wordsIn (recordsFrom t at n .records) ++ rest)))
+unfolding recordsFrom recordAt wordsIn
+record-at t rest zero at k = λ l. absurd (omega arith)
+record-at t rest (suc n) at k = by (ltb (length t) (headerEnd at)) refl (ltb (length t) (stringEnd t at)) refl k (record-at t rest n (at + 1))
+  where
+    seen : Bool → Bool → Ran
+    seen b c = follow (cond b (no header) (cond c (no string) (is (localizedAt t at)))) (λ r. first r (recordsFrom t (at + 1) n))
+
+    by : (b : Bool) → ltb (length t) (headerEnd at) ≡ b → (c : Bool) → ltb (length t) (stringEnd t at) ≡ c → (k : ℕ) → ((j : ℕ) → j < length (recordsFrom t (at + 1) n .records) → ReadAt t (at + 1 + j) (take recordWords (drop (j * recordWords) (wordsIn (recordsFrom t (at + 1) n .records) ++ rest)))) → k < length (seen b c .records) → ReadAt t (at + k) (take recordWords (drop (k * recordWords) (wordsIn (seen b c .records) ++ rest)))
+    by true e c f k ih l = absurd (omega arith)
+    by false e true f k ih l = absurd (omega arith)
+    by false e false f zero ih l = rw (add-zero at) record { record-is = refl; header-in-tag = ltb-false _ _ e; string-in-tag = ltb-false _ _ f }
+    by false e false f (suc k) ih l =
+        let m : suc k * recordWords ≡ suc (suc (suc (suc (k * recordWords)))) = omega arith in
+        let next : at + suc k ≡ at + 1 + k = omega arith in
+        rw (m, next) (ih k (omega arith))
 
 -- each record has a header of its own in the tag
 row-room : (t : List ℕ) (k : ℕ) (rs : List Localized) → 12 * k ≤ length t → Row (RecordTaken t) k rs → 12 * (k + length rs) ≤ length t
@@ -68,14 +77,15 @@ module _ (t : List ℕ) where
   abbrev pub Inside : Answer → Type 0
   Inside (text s) = endOf s ≤ length t
   Inside (desc s u) = (endOf s ≤ length t) × (endOf (u .string) ≤ length t)
-  Inside (mluc n) = (slots : List ℕ) (k : ℕ) → k < n → wordsEnd (drop (k * recordWords) (leftBy (mluc n) (wordsIn (recordsIn t .records)) slots)) ≤ length t
+  Inside (mluc n) = (slots : List ℕ) (k : ℕ) → k < n → ReadAt t k (take recordWords (drop (k * recordWords) (leftBy (mluc n) (wordsIn (recordsIn t .records)) slots)))
   Inside absent = Unit
   Inside (refused n) = Unit
 
   taken-inside : (a : Answer) → Taken t a → Inside a
+  unfolding recordsIn
   taken-inside (text s) h = omega (arith, h .start-is, h .whole, h .string .within)
   taken-inside (desc s u) h = (omega (arith, h .ascii .start-is, h .ascii .whole, h .ascii .string .within), unicode-inside t (asciiEnd t) u (h .unicode))
-  taken-inside (mluc n) h = λ slots k l. row-inside t 0 (recordsIn t .records) _ (h .taken .row) k (omega (arith, l, h .count-is))
+  taken-inside (mluc n) h = λ slots k l. rw (zero-add k) at (record-at t (drop (length (wordsIn (recordsIn t .records))) slots) (recordsAsked t) 0 k (omega (arith, l, h .count-is)))
   taken-inside absent h = tt
   taken-inside (refused n) h = tt
 

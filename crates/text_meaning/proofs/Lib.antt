@@ -6,4 +6,5 @@ pub mod Conforms
 pub mod Proper
 pub mod Inside
 pub mod More
+pub mod Last
 pub mod Cases
