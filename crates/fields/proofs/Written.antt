@@ -24,6 +24,14 @@ unfolding halvesAt
 halves-length s i zero = refl
 halves-length s i (suc n) = ap suc (halves-length s (i + 2) n)
 
+pub half-at : (s : List ℕ) (i n k : ℕ) → k < n → getD (halvesAt s i n) k 0 ≡ u16At s (i + 2 * k)
+unfolding halvesAt
+half-at s i zero k h = absurd (omega arith)
+half-at s i (suc n) zero h = let e : i ≡ i + 2 * 0 = omega arith in ap (u16At s) e
+half-at s i (suc n) (suc k) h =
+    let e : (i + 2) + 2 * k ≡ i + 2 * suc k = omega arith in
+    half-at s (i + 2) n k (omega arith) ∙ ap (u16At s) e
+
 -- ---- written, then read
 
 pub read16 : (n : ℕ) → Is16 n → n / 256 % 256 * 256 + n % 256 ≡ n
@@ -48,6 +56,9 @@ pub word-drop : (s : List ℕ) (i k : ℕ) → u32At (drop i s) k ≡ u32At s (i
 word-drop s i k =
     rw (getD-drop i s k 0, getD-drop i s (k + 1) 0, getD-drop i s (k + 2) 0, getD-drop i s (k + 3) 0, add-assoc i k 1, add-assoc i k 2, add-assoc i k 3)
 
+pub half-drop : (s : List ℕ) (i k : ℕ) → u16At (drop i s) k ≡ u16At s (i + k)
+half-drop s i k = rw (getD-drop i s k 0, getD-drop i s (k + 1) 0, add-assoc i k 1)
+
 pub words-drop : (s : List ℕ) (i k n : ℕ) → wordsAt (drop i s) k n ≡ wordsAt s (i + k) n
 unfolding wordsAt
 words-drop s i k zero = refl
@@ -56,7 +67,7 @@ words-drop s i k (suc n) = rw (word-drop s i k, words-drop s i (k + 4) n, add-as
 pub halves-drop : (s : List ℕ) (i k n : ℕ) → halvesAt (drop i s) k n ≡ halvesAt s (i + k) n
 unfolding halvesAt
 halves-drop s i k zero = refl
-halves-drop s i k (suc n) = rw (getD-drop i s k 0, getD-drop i s (k + 1) 0, halves-drop s i (k + 2) n, add-assoc i k 1, add-assoc i k 2)
+halves-drop s i k (suc n) = rw (half-drop s i k, halves-drop s i (k + 2) n, add-assoc i k 2)
 
 pub bytes-drop : (s : List ℕ) (i k n : ℕ) → bytesAt (drop i s) k n ≡ bytesAt s (i + k) n
 unfolding bytesAt
@@ -106,6 +117,11 @@ pub words-below : (t : List ℕ) → Bytes t → (i n : ℕ) → Each32 (wordsAt
 unfolding wordsAt Each32
 words-below t b i zero = tt
 words-below t b i (suc n) = (below32 t b i, words-below t b (i + 4) n)
+
+pub halves-below : (t : List ℕ) → Bytes t → (i n : ℕ) → Each16 (halvesAt t i n)
+unfolding halvesAt Each16
+halves-below t b i zero = tt
+halves-below t b i (suc n) = (below16 t b i, halves-below t b (i + 2) n)
 
 -- what stands behind, and a part, of bytes is bytes
 pub rest-bytes : (t : List ℕ) → Bytes t → (i : ℕ) → Bytes (drop i t)

@@ -13,10 +13,9 @@ use Rattle.fields.specs.Place.{countedSize}
 use Rattle.text_meaning.specs.Answer.{Answer, text, desc, mluc, absent, refused, Span, span, nowhere, Unicode, leftBy}
 use Rattle.text_meaning.specs.Layout.{asciiEnd, unicodeCount, unicodeStart}
 use Rattle.text_meaning.specs.Mluc.{Localized, even, recordsFrom, recordsAsked, recordsIn, recordWords, wordsIn}
-use Rattle.text_meaning.specs.Standard.{Row, UnicodeTaken, UnicodeShort, RecordTaken}
 use Rattle.text_meaning.specs.Text.{tagOf, stringOf}
-use Rattle.text_meaning.proofs.Conforms.{Taken, read-row, accepted}
 use Rattle.text_meaning.proofs.Found.{Value}
+use Rattle.text_meaning.proofs.Taken.{Row, UnicodeWhole, UnicodeShort, RecordTaken, Taken, read-row, accepted}
 
 -- ---- one range
 
@@ -28,7 +27,7 @@ endOf s = s .start + s .bytes
 abbrev pub wordsEnd : List ℕ → ℕ
 wordsEnd words = getD words 2 0 + getD words 3 0
 
-unicode-inside : (t : List ℕ) (at : ℕ) (u : Unicode) → UnicodeTaken t at u ⊎ UnicodeShort t at u → endOf (u .string) ≤ length t
+unicode-inside : (t : List ℕ) (at : ℕ) (u : Unicode) → UnicodeWhole t at u ⊎ UnicodeShort t at u → endOf (u .string) ≤ length t
 unicode-inside t at u (inl h) = rw (h .answer-is) (by (eqb (unicodeCount t at) 0))
   where
     by : (b : Bool) → endOf (cond b nowhere (span (unicodeStart at) (2 * h .units))) ≤ length t
