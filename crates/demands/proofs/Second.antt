@@ -38,15 +38,11 @@ use Rattle.table_meaning.specs.declared.TableNumbers.{TableNumbers}
 use Rattle.table_meaning.proofs.Any.{invalid-absent}
 use Rattle.table_meaning.proofs.Order.{entries-in-order}
 use Rattle.table_meaning.proofs.Shows.{Shows as TableShows, abm-shows, mft-shows}
-use Rattle.text_meaning.specs.Answer.{Answer as Text·Answer, span}
-use Rattle.text_meaning.specs.Layout.{asciiEnd, unicodeLanguage}
-use Rattle.text_meaning.specs.Mluc.{Localized, recordWords as textWords, recordsIn}
-use Rattle.text_meaning.specs.Standard.{TextType, TextDescriptionType, MultiLocalizedUnicodeType, unicodeRange}
-use Rattle.text_meaning.proofs.Conforms.{text-conforms, desc-conforms, mluc-conforms, mluc-records, Taken, accepted}
-use Rattle.text_meaning.proofs.Found.{Value}
+use Rattle.text_meaning.specs.Standard.{ReadLocalized}
+use Rattle.text_meaning.proofs.Conforms as Text
 use Rattle.text_meaning.proofs.Unique.{unique as text-unique}
 use Rattle.demands.specs.Readers.{Small, chad, sig, date, meas, view, xyz, cicp, Reader, lut, trc, string, small, Call, SmallResult, smallNumbers, smallOf, Result, Numbers, numbers, meaning, Library, Promised, says}
-use Rattle.demands.specs.Demands.{tag, curveTag, TagInside, CurveAs, AbmSaid, AbmAs, MftSaid, MlucSaid, MlucAs, Layout, Asked, AskedBack, ofTag, Shows, Demand2}
+use Rattle.demands.specs.Demands.{tag, curveTag, TagInside, CurveAs, AbmSaid, AbmAs, MftSaid, Layout, Asked, AskedBack, ofTag, Shows, Demand2}
 
 -- ---- one call, one answer: a result is determined by its numbers
 
@@ -155,36 +151,6 @@ module _ (l : Library) (p : Promised l) where
       let i = mft-in-tag walk (c .entries) (c .points) (c .profile) (c .entry) (c .size) (length (c .slots)) f s in
       (k .laid, k .asked, mft-accepted walk c (i .0) (k .laid) (k .asked))
 
-  -- ---- text
-
-  text-accepted : (c : Call) (n : ℕ) → TagInside c → TextType (tag c) n → says l string c ≡ Text·Answer.text (span 8 n)
-  text-accepted c n whole h = p .answers string c ∙ text-conforms (c .profile) (c .entry) (c .size) whole (length (c .slots)) n h
-
-  desc-accepted : (c : Call) (n m : ℕ) → TagInside c → TextDescriptionType (tag c) n m → let at : ℕ = asciiEnd (tag c) in says l string c ≡ Text·Answer.desc (span 12 n) record { language = unicodeLanguage (tag c) at; string = unicodeRange (tag c) at m }
-  desc-accepted c n m whole h = p .answers string c ∙ desc-conforms (c .profile) (c .entry) (c .size) whole (length (c .slots)) n m h
-
-  mluc-accepted : (c : Call) (rs : List Localized) → TagInside c → MultiLocalizedUnicodeType (tag c) rs → length rs ≤ length (c .slots) / textWords → MlucSaid l c rs
-  mluc-accepted c rs whole h room =
-      let e = mluc-conforms (c .profile) (c .entry) (c .size) whole (length (c .slots)) rs h room in
-      record { answer-is = p .answers string c ∙ e; slots-are = p .leaves-so string c ∙ rw (e, mluc-records (tag c) rs h) }
-
-  -- what is accepted is taken
-  string-taken : (c : Call) (a : Text·Answer) → Value a → says l string c ≡ a → (meaning string c ≡ a) × Taken (tag c) a
-  string-taken c a v h =
-      let e : meaning string c ≡ a = sym (p .answers string c) ∙ h in
-      let k = accepted (c .profile) (c .entry) (c .size) (length (c .slots)) (subst Value (sym e) v) in
-      (e, subst (Taken (tag c)) e (k .laid))
-
-  mluc-taken : (c : Call) (n : ℕ) → says l string c ≡ Text·Answer.mluc n → MlucAs l c
-  mluc-taken c n h =
-      let k = string-taken c (Text·Answer.mluc n) tt h in
-      let count = k .1 .count-is in
-      record {
-        records = recordsIn (tag c) .records;
-        taken = k .1 .taken;
-        said = record { answer-is = h ∙ ap Text·Answer.mluc count; slots-are = p .leaves-so string c ∙ rw (k .0) };
-      }
-
   -- ---- the view
 
   shows : (t : List ℕ) (n : TableNumbers) (table : Table) (bytes : ℕ) → TableShows t n table bytes → Shows l t n table bytes
@@ -212,12 +178,16 @@ module _ (l : Library) (p : Promised l) where
         abm-counts = abm-counts;
         mft-accepted = mft-accepted;
         mft-laid = mft-laid;
-        text-accepted = text-accepted;
-        text-taken = λ c s h. string-taken c _ tt h .1;
-        desc-accepted = desc-accepted;
-        desc-taken = λ c s u h. string-taken c _ tt h .1;
-        mluc-accepted = mluc-accepted;
-        mluc-taken = mluc-taken;
+        text-read = λ c reserved cs h i e. p .answers string c ∙ Text.text-written (c .profile) (c .entry) (c .size) i (length (c .slots)) reserved cs h e;
+        text-written = λ c b s e. Text.text-read (c .profile) b (c .entry) (c .size) (length (c .slots)) s (sym (p .answers string c) ∙ e);
+        desc-read = λ c reserved d rest h i e. p .answers string c ∙ Text.desc-written (c .profile) (c .entry) (c .size) i (length (c .slots)) reserved d rest h e;
+        desc-written = λ c b s u e. Text.desc-read (c .profile) b (c .entry) (c .size) (length (c .slots)) s u (sym (p .answers string c) ∙ e);
+        mluc-read =
+            λ c t h i room.
+            (p .answers string c ∙ Text.mluc-written (c .profile) (c .entry) (c .size) i (length (c .slots)) t h room, p .leaves-so string c ∙ Text.mluc-left (c .profile) (c .entry) (c .size) i (c .slots) t h room);
+        mluc-written =
+            λ c b n e.
+            subst (ReadLocalized (c .profile) (c .entry) (c .size) n (c .slots)) (sym (p .leaves-so string c)) (Text.mluc-read (c .profile) b (c .entry) (c .size) (c .slots) n (sym (p .answers string c) ∙ e));
         small-accepted = λ s c q entry size ws whole asked laid. p .answers (small s) (ofTag c q entry size) ∙ accepts s q entry size ws whole asked laid;
         small-laid = λ s c q entry size ws asked h. accepts-only s q entry size ws asked (sym (p .answers (small s) (ofTag c q entry size)) ∙ h);
         abm-shown = abm-shown;

@@ -7,6 +7,8 @@ use mathlib.Core.List.{List, [], _++_}
 use mathlib.Core.Logic.{_⊎_}
 use lib.Dec.{ltb}
 use lib.ListN.{length, getD, drop}
+use Rattle.icc.specs.Numbers.{Bytes}
+use Rattle.icc.specs.Text.{Ascii, terminated, textType, Description, IsDescription, textDescriptionType, LocalizedTag}
 use Rattle.fields.specs.Place.{tagAt, countedSize}
 use Rattle.fields.specs.declared.Kind.the-variants.{Sig, Dtim, Meas, View, Xyz, Cicp}
 use Rattle.clut_meaning.specs.Table.{Table, inGrid, numberOf, lengthOf}
@@ -25,9 +27,8 @@ use Rattle.lut_meaning.specs.Answer.{mft, abm, Abm}
 use Rattle.lut_meaning.specs.Layout.{matrixOffset, aCurves, mCurves, bCurves, recordsNeeded}
 use Rattle.lut_meaning.specs.Standard.{LaidOut as AbmLaidOut, Asked as AbmAsked}
 use Rattle.text_meaning.specs.Answer.{Answer as Text·Answer, Span, span, Unicode}
-use Rattle.text_meaning.specs.Layout.{textStart, asciiStart, asciiEnd, unicodeLanguage}
-use Rattle.text_meaning.specs.Mluc.{Localized, recordWords as textWords, wordsIn}
-use Rattle.text_meaning.specs.Standard.{TextType, TextDescriptionType, MultiLocalizedUnicodeType, TextTaken, DescriptionTaken, RecordsTaken, unicodeRange}
+use Rattle.text_meaning.specs.Mluc.{recordWords as textWords}
+use Rattle.text_meaning.specs.Standard.{BeginsText, descriptionTold, BeginsDescription, Asked as MlucAsked, recordsTold, ReadLocalized}
 use Rattle.small_meaning.specs.Layout.{signatureIn, dateBytes, measurement, conditions, firstXyz, codePoints}
 use Rattle.small_meaning.specs.Standard.{Laid, LaidNine, Always, InProfile, Whole36, SameDate, Accepts, AcceptsOnly}
 use Rattle.table_meaning.specs.Answer.{Told, paper as Table·paper}
@@ -142,16 +143,6 @@ pub record MftSaid (l : Library) (walk : Walk) (c : Call) : Type 0 where
   pub fields-are : says l (lut walk) c .state ≡ mft (fieldsOf (tag c))
   pub matrix-is : says l (lut walk) c .matrix ≡ Mft·matrixOf (tag c)
 
--- `mluc` is answered with these records
-pub record MlucSaid (l : Library) (c : Call) (rs : List Localized) : Type 0 where
-  pub answer-is : says l string c ≡ Text·Answer.mluc (length rs)
-  pub slots-are : l .leaves string c ≡ wordsIn rs ++ drop (length (wordsIn rs)) (c .slots)
-
-pub record MlucAs (l : Library) (c : Call) : Type 0 where
-  pub records : List Localized
-  pub taken : RecordsTaken (tag c) records
-  pub said : MlucSaid l c records
-
 -- the types of the small readers: s15Fixed16ArrayType of nine numbers, signatureType, dateTimeType, measurementType, viewingConditionsType,
 -- XYZType, cicpType
 abbrev pub Layout : Small → List ℕ → List ℕ → Type 0
@@ -211,13 +202,14 @@ pub record Demand2 (l : Library) : Type 0 where
   -- lut8Type and lut16Type
   pub mft-accepted : (walk : Walk) (c : Call) → TagInside c → MftLaidOut (tag c) → MftAsked (c .points) (tag c) → MftSaid l walk c
   pub mft-laid : (walk : Walk) (c : Call) (f : Fields) → says l (lut walk) c .state ≡ mft f → MftLaidOut (tag c) × MftAsked (c .points) (tag c) × MftSaid l walk c
-  -- textType, textDescriptionType and multiLocalizedUnicodeType; what is taken besides stands in text_meaning/specs/Standard.antt
-  pub text-accepted : (c : Call) (n : ℕ) → TagInside c → TextType (tag c) n → says l string c ≡ Text·Answer.text (span textStart n)
-  pub text-taken : (c : Call) (s : Span) → says l string c ≡ Text·Answer.text s → TextTaken (tag c) s
-  pub desc-accepted : (c : Call) (n m : ℕ) → TagInside c → TextDescriptionType (tag c) n m → let at : ℕ = asciiEnd (tag c) in says l string c ≡ Text·Answer.desc (span asciiStart n) record { language = unicodeLanguage (tag c) at; string = unicodeRange (tag c) at m }
-  pub desc-taken : (c : Call) (s : Span) (u : Unicode) → says l string c ≡ Text·Answer.desc s u → DescriptionTaken (tag c) s u
-  pub mluc-accepted : (c : Call) (rs : List Localized) → TagInside c → MultiLocalizedUnicodeType (tag c) rs → length rs ≤ length (c .slots) / textWords → MlucSaid l c rs
-  pub mluc-taken : (c : Call) (n : ℕ) → says l string c ≡ Text·Answer.mluc n → MlucAs l c
+  -- textType, textDescriptionType and multiLocalizedUnicodeType, as `icc` writes them; what is taken besides stands in
+  -- text_meaning/specs/Standard.antt
+  pub text-read : (c : Call) (reserved : ℕ) (cs : List ℕ) → Ascii cs → TagInside c → tag c ≡ textType reserved (terminated cs) → says l string c ≡ Text·Answer.text (span 8 (length cs))
+  pub text-written : (c : Call) → Bytes (c .profile) → (s : Span) → says l string c ≡ Text·Answer.text s → TagInside c × BeginsText (tag c) s
+  pub desc-read : (c : Call) (reserved : ℕ) (d : Description) (rest : List ℕ) → IsDescription d → TagInside c → tag c ≡ textDescriptionType reserved d ++ rest → says l string c ≡ descriptionTold d
+  pub desc-written : (c : Call) → Bytes (c .profile) → (s : Span) (u : Unicode) → says l string c ≡ Text·Answer.desc s u → TagInside c × BeginsDescription (tag c) s u
+  pub mluc-read : (c : Call) (t : LocalizedTag (tag c)) → MlucAsked t → TagInside c → length (t .records) * 4 ≤ length (c .slots) → let records : List ℕ = recordsTold (t .records) in (says l string c ≡ Text·Answer.mluc (length (t .records))) × (l .leaves string c ≡ records ++ drop (length records) (c .slots))
+  pub mluc-written : (c : Call) → Bytes (c .profile) → (n : ℕ) → says l string c ≡ Text·Answer.mluc n → ReadLocalized (c .profile) (c .entry) (c .size) n (c .slots) (l .leaves string c)
   -- the types of the small readers
   pub small-accepted : (s : Small) (c : Call) → Accepts (λ p entry size. says l (small s) (ofTag c p entry size)) (Layout s) (Asked s)
   pub small-laid : (s : Small) (c : Call) → AcceptsOnly (λ p entry size. says l (small s) (ofTag c p entry size)) (Layout s) (AskedBack s)

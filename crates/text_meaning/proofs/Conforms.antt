@@ -10,22 +10,21 @@ use mathlib.Core.Bool.{Bool, true, false, cond}
 use mathlib.Core.List.{List, [], _∷_, _++_, map, append-nil, append-assoc}
 use mathlib.Core.Logic.{_⊎_, inl, inr}
 use lib.Dec.{ltb, eqb}
-use lib.ListN.{length, getD, take, drop, replicate, length-append, length-take, length-drop, length-replicate, take-append-drop, List·getD-append}
+use lib.ListN.{length, getD, take, drop, replicate, length-append, length-drop, length-replicate, List·getD-append}
 use lib.Seq.{getD-drop, getD-take, drop-drop, drop-append-seam, length-take-le}
-use borrow.Author.Tests.{eq-eqb, ne-eqb, le-ltb, ltb-true, ltb-false, eqb-true, eqb-false}
-use Rattle.icc.specs.Elements.{Stands}
-use Rattle.icc.specs.Numbers.{be16, be32, each16, Is16, Is32, Each16, Bytes}
-use Rattle.icc.specs.Text.{Ascii, Utf16, terminated, textType, asciiPart, unicodePart, scriptPart, UnicodeString, no-string, characters, unicodeString, IsUnicode, Description, textDescriptionType, IsDescription, Localized, recordElement, recordElements, localizedHead, StringAt, StringsAt, LocalizedTag}
+use borrow.Author.Tests.{eq-eqb, ne-eqb, ltb-true, ltb-false, eqb-true, eqb-false}
+use Rattle.icc.specs.Numbers.{be32, each16, Is32, Each16, Bytes}
+use Rattle.icc.specs.Text.{Ascii, Utf16, terminated, textType, asciiPart, unicodePart, scriptPart, UnicodeString, no-string, characters, unicodeString, IsUnicode, Description, textDescriptionType, IsDescription, Localized, recordElement, recordElements, localizedHead, StringsAt, LocalizedTag}
 use Rattle.fields.proofs.Written.{halvesAt, halves-length, half-at, half-drop, halves-drop, halves-written, halves-below, read16, read32, word-drop, length16, below16, below32, part-bytes, then16, then32, row8, row16}
 use Rattle.fields.specs.Bytes.{u16At, u32At}
 use Rattle.fields.specs.Place.{countedSize}
 use Rattle.fields.specs.Tag.{signatureOf}
 use Rattle.text_meaning.specs.Answer.{Answer, text, desc, mluc, Span, span, nowhere, Unicode, leftBy}
-use Rattle.text_meaning.specs.Cut.{byteOf, unitOf, Cut}
+use Rattle.text_meaning.specs.Cut.{byteOf, unitOf}
 use Rattle.text_meaning.specs.Mluc.{Localized as Placed, Ran, whole, even, recordsAsked, recordsIn, wordsIn}
-use Rattle.text_meaning.specs.Standard.{TagInside, tagIn, NoZeroLast, BeginsText, unicodeTold, descriptionTold, CutShort, no-count, no-units, UnicodeTaken, none, some, short, BeginsDescription, Fits, AllFit, Asked, recordsTold, StringTaken, StringsTaken, BeginsLocalized, ReadLocalized}
-use Rattle.text_meaning.specs.Text.{byType, tagOf, stringOf, leftOf}
-use Rattle.text_meaning.proofs.Cutting.{string-cut, CutString, cut-string}
+use Rattle.text_meaning.specs.Standard.{TagInside, tagIn, NoZeroLast, BeginsText, unicodeTold, descriptionTold, CutShort, no-count, no-units, UnicodeTaken, none, some, short, BeginsDescription, AllFit, Asked, recordsTold, StringTaken, StringsTaken, BeginsLocalized, ReadLocalized}
+use Rattle.text_meaning.specs.Text.{stringOf, leftOf}
+use Rattle.text_meaning.proofs.Cutting.{string-cut, cut-string}
 use Rattle.text_meaning.proofs.Found.{Value, in-profile}
 use Rattle.text_meaning.proofs.Taken.{TextTaken, AsciiTaken, UnicodeWhole, UnicodeShort, DescriptionTaken, Row, RecordTaken, RecordsTaken, text-accepted, desc-accepted, mluc-accepted, records-read, Taken, accepted}
 
