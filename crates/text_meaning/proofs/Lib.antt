@@ -4,6 +4,7 @@ pub mod Unique
 pub mod Found
 pub mod Taken
 pub mod Conforms
+pub mod Proper
 pub mod Inside
 pub mod More
 pub mod Cases
