@@ -21,6 +21,7 @@ use Rattle.fields.specs.Place.{countedSize}
 use Rattle.fields.specs.Tag.{signatureOf}
 use Rattle.text_meaning.specs.Answer.{Answer, text, desc, mluc, Span, span, nowhere, Unicode, leftBy}
 use Rattle.text_meaning.specs.Cut.{byteOf, unitOf}
+use Rattle.text_meaning.specs.Layout.{unicodeLanguage, unicodeCount, unicodeStart}
 use Rattle.text_meaning.specs.Mluc.{Localized as Placed, Ran, whole, even, recordsAsked, recordsIn, wordsIn}
 use Rattle.text_meaning.specs.Standard.{TagInside, tagIn, NoZeroLast, BeginsText, unicodeTold, descriptionTold, CutShort, no-count, no-units, UnicodeTaken, none, some, short, BeginsDescription, AllFit, Asked, recordsTold, StringTaken, StringsTaken, BeginsLocalized, ReadLocalized}
 use Rattle.text_meaning.specs.Text.{stringOf, leftOf}
@@ -87,10 +88,10 @@ module _ (t : List ℕ) (at : ℕ) (within : at ≤ length t) where
 
   -- a part that stands there
   record Stood (language : ℕ) (us : List ℕ) : Type 0 where
-    language-is : u32At t at ≡ language
-    count-is : u32At t (at + 4) ≡ length us
+    language-is : unicodeLanguage t at ≡ language
+    count-is : unicodeCount t at ≡ length us
     whole : at + 8 + 2 * length us ≤ length t
-    units-are : (i : ℕ) → i < length us → unitOf t (at + 8) i ≡ getD us i 0
+    units-are : (i : ℕ) → i < length us → unitOf t (unicodeStart at) i ≡ getD us i 0
 
   stood : (language : ℕ) (us rest : List ℕ) → Is32 language → Is32 (length us) → Each16 us → part ≡ unicodePart language us ++ rest → Stood language us
   unfolding unicodePart unitOf

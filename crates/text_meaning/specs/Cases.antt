@@ -120,6 +120,7 @@ cases =
     gives (descTag (word 1 ++ (0 ∷ []) ++ word 9 ++ word 1 ++ (0 ∷ 0 ∷ []))) 23 [] (desc (span 12 0) record { language = 9; string = span 21 0 }) [] ∷
     gives (descTag (word 0 ++ word 9 ++ word 0)) 20 [] (desc (span 12 0) record { language = 9; string = nowhere }) [] ∷
     gives (descTag (word 0 ++ word 9 ++ word 1)) 20 [] (desc (span 12 0) record { language = 0; string = nowhere }) [] ∷
+    gives (descTag (word 0 ++ word 9 ++ word 1 ++ (0x42 ∷ []))) 21 [] (desc (span 12 0) record { language = 0; string = nowhere }) [] ∷
     gives (descTag (word 0 ++ word 9)) 16 [] (desc (span 12 0) record { language = 0; string = nowhere }) [] ∷
     gives (descTag (word 1)) 12 [] (refused 2) [] ∷
     []
