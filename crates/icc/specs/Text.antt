@@ -1,5 +1,5 @@
 -- textType (10.24) and multiLocalizedUnicodeType (10.15), and textDescriptionType of ICC.1:2001-04 (6.5.17).
-use Prim.Native.Nat.{ℕ, _+_, _*_, _≤_, _<_}
+use Prim.Native.Nat.{ℕ, _*_, _≤_, _<_}
 use mathlib.Core.Path.{_≡_}
 use mathlib.Core.List.{List, [], _∷_, _++_}
 use lib.ListN.{length}

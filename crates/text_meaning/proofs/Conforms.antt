@@ -19,7 +19,7 @@ use Rattle.fields.proofs.Written.{halvesAt, halves-length, half-at, half-drop, 
 use Rattle.fields.specs.Bytes.{u16At, u32At}
 use Rattle.fields.specs.Place.{countedSize}
 use Rattle.fields.specs.Tag.{signatureOf}
-use Rattle.text_meaning.specs.Answer.{Answer, text, desc, mluc, Span, span, nowhere, Unicode, leftBy}
+use Rattle.text_meaning.specs.Answer.{Answer, text, desc, mluc, Span, span, Unicode, leftBy}
 use Rattle.text_meaning.specs.Cut.{byteOf, unitOf}
 use Rattle.text_meaning.specs.Layout.{unicodeLanguage, unicodeCount, unicodeStart}
 use Rattle.text_meaning.specs.Mluc.{Localized as Placed, Ran, whole, even, recordsAsked, recordsIn, wordsIn}
@@ -154,7 +154,7 @@ module _ (t : List ℕ) (at : ℕ) (within : at ≤ length t) where
         by : (e : Bool) → eqb count 0 ≡ e → UnicodeTaken (at + 8) part u
         by true e =
             let z : count ≡ 0 = eqb-true count 0 e in
-            let a : u ≡ record { language = u32At t at; string = nowhere } = h .answer-is ∙ rw e in
+            let a : u ≡ record { language = u32At t at; string = span 0 0 } = h .answer-is ∙ rw e in
             none (u32At t at) (drop (at + 8) t) (below32 t b at) (numbers-there (omega (arith, h .whole)) z refl) a
         by false e =
             let n : length us ≡ count = halves-length t (at + 8) count in

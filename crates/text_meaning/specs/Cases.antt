@@ -3,7 +3,7 @@ use Prim.Native.Nat.{ℕ, _*_}
 use mathlib.Core.Path.{_≡_}
 use mathlib.Core.List.{List, [], _∷_, _++_}
 use lib.ListN.{length, replicate}
-use Rattle.text_meaning.specs.Answer.{Answer, text, desc, mluc, absent, refused, span, nowhere}
+use Rattle.text_meaning.specs.Answer.{Answer, text, desc, mluc, absent, refused, span}
 use Rattle.text_meaning.specs.Mluc.{recordWords}
 use Rattle.text_meaning.specs.Text.{stringOf, leftOf}
 
@@ -101,6 +101,8 @@ cases =
     gives five 33 (slots 1) (mluc 1) (recordOf 28 4) ∷
     gives five 33 (slots 2) (mluc 1) (recordOf 28 4 ++ slots 1) ∷
     gives five 33 [] (refused 14) [] ∷
+    -- a zero unit at the end of its string stays
+    gives (mlucTag (word 1) (english (word 4) (word 28) ++ (0 ∷ 0x41 ∷ 0 ∷ 0 ∷ []))) 32 (slots 1) (mluc 1) (recordOf 28 4) ∷
     -- a string past the tag is absent, even where the next header is past it too; that one alone is refusal 2
     gives five 32 (slots 1) absent (slots 1) ∷
     gives (mlucTag (word 2) (english (word 1) (word 28))) 28 (slots 2) absent (slots 2) ∷
@@ -118,9 +120,9 @@ cases =
     -- a Unicode string; one of length 0 keeps the language; one past the tag, and fewer than 8 bytes, do not
     gives (descTag (word 2 ++ (0x41 ∷ 0 ∷ []) ++ word 9 ++ word 2 ++ (0 ∷ 0x42 ∷ 0 ∷ 0 ∷ []))) 26 [] (desc (span 12 1) record { language = 9; string = span 22 2 }) [] ∷
     gives (descTag (word 1 ++ (0 ∷ []) ++ word 9 ++ word 1 ++ (0 ∷ 0 ∷ []))) 23 [] (desc (span 12 0) record { language = 9; string = span 21 0 }) [] ∷
-    gives (descTag (word 0 ++ word 9 ++ word 0)) 20 [] (desc (span 12 0) record { language = 9; string = nowhere }) [] ∷
-    gives (descTag (word 0 ++ word 9 ++ word 1)) 20 [] (desc (span 12 0) record { language = 0; string = nowhere }) [] ∷
-    gives (descTag (word 0 ++ word 9 ++ word 1 ++ (0x42 ∷ []))) 21 [] (desc (span 12 0) record { language = 0; string = nowhere }) [] ∷
-    gives (descTag (word 0 ++ word 9)) 16 [] (desc (span 12 0) record { language = 0; string = nowhere }) [] ∷
+    gives (descTag (word 0 ++ word 9 ++ word 0)) 20 [] (desc (span 12 0) record { language = 9; string = span 0 0 }) [] ∷
+    gives (descTag (word 0 ++ word 9 ++ word 1)) 20 [] (desc (span 12 0) record { language = 0; string = span 0 0 }) [] ∷
+    gives (descTag (word 0 ++ word 9 ++ word 1 ++ (0x42 ∷ []))) 21 [] (desc (span 12 0) record { language = 0; string = span 0 0 }) [] ∷
+    gives (descTag (word 0 ++ word 9)) 16 [] (desc (span 12 0) record { language = 0; string = span 0 0 }) [] ∷
     gives (descTag (word 1)) 12 [] (refused 2) [] ∷
     []

@@ -10,7 +10,7 @@ use lib.ListN.{length, take, drop, replicate}
 use Rattle.icc.specs.Elements.{Stands}
 use Rattle.icc.specs.Numbers.{be32, each16, Is16, Is32, Each16}
 use Rattle.icc.specs.Text.{textType, asciiPart, unicodePart, UnicodeString, no-string, characters, Description, Localized, localizedHead, LocalizedTag}
-use Rattle.text_meaning.specs.Answer.{Answer, desc, Span, span, nowhere, Unicode}
+use Rattle.text_meaning.specs.Answer.{Answer, desc, Span, span, Unicode}
 
 -- the tag in its profile: a size of 0 counts as 12
 abbrev pub bytesIn : ℕ → ℕ
@@ -39,9 +39,9 @@ pub record BeginsText (t : List ℕ) (s : Span) : Type 0 where
 
 -- ---- textDescriptionType
 
--- the answer: the Unicode string stands behind 20 bytes and the n bytes of the ASCII string; one that is not there is nowhere
+-- the answer: the Unicode string stands behind 20 bytes and the n bytes of the ASCII string; one that is not there is 0 bytes at 0
 abbrev pub unicodeTold : ℕ → UnicodeString → Span
-unicodeTold start no-string = nowhere
+unicodeTold start no-string = span 0 0
 unicodeTold start (characters cs) = span start (2 * length cs)
 
 abbrev pub descriptionTold : Description → Answer
@@ -55,11 +55,12 @@ pub data CutShort (part : List ℕ) : Type 0 where
   no-units : (language count : ℕ) (bytes : List ℕ) → Is32 count → part ≡ be32 language ++ be32 count ++ bytes → length bytes < 2 * count → CutShort part
 
 -- what stands behind the ASCII string is a Unicode part, of any units and with any number of zeros behind them, or none; or it is cut short,
--- and answered by language 0 and nowhere. A string of no units at all, not even zeros, is nowhere. The ScriptCode part is not looked at
+-- and answered by language 0 and 0 bytes at 0, where a string of no units at all, not even zeros, stands too. The ScriptCode part is not
+-- looked at
 pub data UnicodeTaken (start : ℕ) (part : List ℕ) (u : Unicode) : Type 0 where
-  none : (language : ℕ) (rest : List ℕ) → Is32 language → part ≡ unicodePart language [] ++ rest → u ≡ record { language = language; string = nowhere } → UnicodeTaken start part u
+  none : (language : ℕ) (rest : List ℕ) → Is32 language → part ≡ unicodePart language [] ++ rest → u ≡ record { language = language; string = span 0 0 } → UnicodeTaken start part u
   some : (language : ℕ) (units : List ℕ) (zeros : ℕ) (rest : List ℕ) → Is32 language → Each16 units → 1 ≤ length units + zeros → Is32 (length units + zeros) → NoZeroLast units → part ≡ unicodePart language (units ++ replicate zeros 0) ++ rest → u ≡ record { language = language; string = span start (2 * length units) } → UnicodeTaken start part u
-  short : CutShort part → u ≡ record { language = 0; string = nowhere } → UnicodeTaken start part u
+  short : CutShort part → u ≡ record { language = 0; string = span 0 0 } → UnicodeTaken start part u
 
 -- of the ASCII string any bytes are taken, as of textType
 pub record BeginsDescription (t : List ℕ) (s : Span) (u : Unicode) : Type 0 where
