@@ -24,10 +24,10 @@ use Rattle.text_meaning.specs.Cut.{byteOf, unitOf}
 use Rattle.text_meaning.specs.Layout.{unicodeLanguage, unicodeCount, unicodeStart}
 use Rattle.text_meaning.specs.Mluc.{Localized as Placed, Ran, whole, even, recordsAsked, recordsIn, wordsIn}
 use Rattle.text_meaning.specs.Standard.{TagInside, tagIn, NoZeroLast, BeginsText, unicodeTold, descriptionTold, CutShort, no-count, no-units, UnicodeTaken, none, some, short, BeginsDescription, AllFit, Asked, recordsTold, StringTaken, StringsTaken, BeginsLocalized, ReadLocalized}
-use Rattle.text_meaning.specs.Text.{stringOf, leftOf}
+use Rattle.text_meaning.specs.Text.{byType, stringOf, leftOf}
 use Rattle.text_meaning.proofs.Cutting.{string-cut, cut-string}
-use Rattle.text_meaning.proofs.Found.{Value, in-profile}
-use Rattle.text_meaning.proofs.Taken.{TextTaken, AsciiTaken, UnicodeWhole, UnicodeShort, DescriptionTaken, Row, RecordTaken, RecordsTaken, text-accepted, desc-accepted, mluc-accepted, records-read, Taken, accepted}
+use Rattle.text_meaning.proofs.Found.{Value, in-profile, found}
+use Rattle.text_meaning.proofs.Taken.{TextTaken, AsciiTaken, UnicodeWhole, UnicodeShort, DescriptionTaken, Row, RecordTaken, RecordsTaken, text-accepted, desc-accepted, mluc-accepted, mluc-room, records-read, Taken, accepted}
 
 -- a string with zeros behind it has as many bytes as both
 zeros-length : (s : List ℕ) (k : ℕ) → length (s ++ replicate k 0) ≡ length s + k
@@ -523,14 +523,16 @@ module _ (p : List ℕ) (b : Bytes p) (entry size : ℕ) where
   here : Bytes tag-read
   here = part-bytes p b entry (countedSize size)
 
-  record Answered (a : Answer) : Type 0 where
+  record Answered (words : ℕ) (a : Answer) : Type 0 where
     inside : TagInside p entry size
     laid : Taken tag-read a
+    as-tag : stringOf p entry size words ≡ byType tag-read words
 
-  answered : (words : ℕ) (a : Answer) → Value a → stringOf p entry size words ≡ a → Answered a
+  answered : (words : ℕ) (a : Answer) → Value a → stringOf p entry size words ≡ a → Answered words a
   answered words a v e =
-      let k = accepted p entry size words (subst Value (sym e) v) in
-      record { inside = k .tag-in-profile; laid = subst (Taken tag-read) e (k .laid) }
+      let w = subst Value (sym e) v in
+      let k = accepted p entry size words w in
+      record { inside = k .tag-in-profile; laid = subst (Taken tag-read) e (k .laid); as-tag = found p entry size words w .as-tag }
 
   pub text-read : (words : ℕ) (s : Span) → stringOf p entry size words ≡ text s → TagInside p entry size × BeginsText tag-read s
   text-read words s e = let k = answered words (text s) tt e in (k .inside, text-begun tag-read here s (k .laid))
@@ -548,5 +550,6 @@ module _ (p : List ℕ) (b : Bytes p) (entry size : ℕ) where
         records = localizedFrom tag-read 0 rs;
         begins = mluc-begun tag-read here rs (k .laid .taken);
         count-is = k .laid .count-is ∙ sym (from-length tag-read 0 rs);
+        room = omega (arith, from-length tag-read 0 rs, mluc-room tag-read rs (length slots) n (k .laid .taken) (sym (k .as-tag) ∙ e));
         left-is = ap (λ (a : Answer). leftBy a (wordsIn rs) slots) e ∙ ap (λ (ws : List ℕ). ws ++ drop (length ws) slots) words;
       }

@@ -2,6 +2,7 @@
 -- `Conforms`, which says the same by what the standards write.
 -- Assumes nothing.
 use Prim.Native.Nat.{ℕ, zero, suc, _+_, _-_, _*_, _/_, _≤_, _<_}
+use native.Mathlib.Omega.{arith}
 use mathlib.Core.Path.{_≡_, refl, sym, _∙_}
 use mathlib.Core.Bool.{Bool, true, false, cond}
 use mathlib.Core.List.{List, [], _∷_}
@@ -113,6 +114,18 @@ records-read t rs h = rw (h .count) (row-read t 0 rs (h .row))
 pub mluc-accepted : (t : List ℕ) (rs : List Localized) (words : ℕ) → RecordsTaken t rs → length rs ≤ words / recordWords → byType t words ≡ mluc (length rs)
 unfolding mlucOf slottedOf
 mluc-accepted t rs words h l = as-mluc t words (h .signature) ∙ rw (records-read t rs h, h .count, le-ltb (words / recordWords) (length rs) l)
+
+-- and only then
+pub mluc-room : (t : List ℕ) (rs : List Localized) (words n : ℕ) → RecordsTaken t rs → byType t words ≡ mluc n → length rs ≤ words / recordWords
+unfolding mlucOf slottedOf
+mluc-room t rs words n h e = by (ltb (words / recordWords) (length rs)) refl
+  where
+    by : (b : Bool) → ltb (words / recordWords) (length rs) ≡ b → length rs ≤ words / recordWords
+    by true f =
+        let few : byType t words ≡ refused 14 = as-mluc t words (h .signature) ∙ rw (records-read t rs h, h .count, f) in
+        let z : _≡_ {A = ℕ} 0 1 = cc in
+        absurd (omega arith)
+    by false f = ltb-false (words / recordWords) (length rs) f
 
 -- ---- what is accepted is taken
 

@@ -128,4 +128,5 @@ pub record ReadLocalized (profile : List ℕ) (entry size n : ℕ) (slots left :
   pub records : List Localized
   pub begins : BeginsLocalized (tagIn profile entry size) records
   pub count-is : n ≡ length records
+  pub room : length records * 4 ≤ length slots
   pub left-is : left ≡ recordsTold records ++ drop (length (recordsTold records)) slots
