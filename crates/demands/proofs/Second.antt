@@ -29,15 +29,11 @@ use Rattle.table_meaning.specs.declared.TableNumbers.{TableNumbers}
 use Rattle.table_meaning.proofs.Any.{invalid-absent}
 use Rattle.table_meaning.proofs.Conforms.{abm-colours, wide-colours, narrow-colours}
 use Rattle.table_meaning.proofs.Shows.{Shows as TableShows, abm-shows, mft-shows}
-use Rattle.text_meaning.specs.Answer.{Answer as Text·Answer, span}
-use Rattle.text_meaning.specs.Layout.{asciiEnd, unicodeLanguage}
-use Rattle.text_meaning.specs.Mluc.{Localized, recordWords as textWords, recordsIn}
-use Rattle.text_meaning.specs.Standard.{TextType, TextDescriptionType, MultiLocalizedUnicodeType, unicodeRange}
-use Rattle.text_meaning.proofs.Conforms.{text-conforms, desc-conforms, mluc-conforms, mluc-records, Taken, accepted}
-use Rattle.text_meaning.proofs.Found.{Value}
+use Rattle.text_meaning.specs.Standard.{ReadLocalized}
+use Rattle.text_meaning.proofs.Conforms as Text
 use Rattle.text_meaning.proofs.Unique.{unique as text-unique}
 use Rattle.demands.specs.Readers.{Small, chad, sig, date, meas, view, xyz, cicp, Reader, lut, trc, string, small, Call, SmallResult, smallNumbers, smallOf, Result, Numbers, numbers, meaning, Library, Promised, says}
-use Rattle.demands.specs.Demands.{tag, TagInside, bytes, InProfile, reader, shown, MlucSaid, MlucAs, Shows, Demand2}
+use Rattle.demands.specs.Demands.{tag, bytes, InProfile, reader, shown, Shows, Demand2}
 
 -- ---- one call, one answer: a result is determined by its numbers
 
@@ -79,36 +75,6 @@ module _ (l : Library) (p : Promised l) where
       let e = p .answers (lut walk) c in
       let w = profile-written-mft (c .entries) (c .points) (c .profile) b (c .entry) (c .size) walk (length (c .slots)) f (sym (lut-state walk c) ∙ h) in
       (w .0, rw (← e) at (w .1))
-
-  -- ---- text
-
-  text-accepted : (c : Call) (n : ℕ) → TagInside c → TextType (tag c) n → says l string c ≡ Text·Answer.text (span 8 n)
-  text-accepted c n whole h = p .answers string c ∙ text-conforms (c .profile) (c .entry) (c .size) whole (length (c .slots)) n h
-
-  desc-accepted : (c : Call) (n m : ℕ) → TagInside c → TextDescriptionType (tag c) n m → let at : ℕ = asciiEnd (tag c) in says l string c ≡ Text·Answer.desc (span 12 n) record { language = unicodeLanguage (tag c) at; string = unicodeRange (tag c) at m }
-  desc-accepted c n m whole h = p .answers string c ∙ desc-conforms (c .profile) (c .entry) (c .size) whole (length (c .slots)) n m h
-
-  mluc-accepted : (c : Call) (rs : List Localized) → TagInside c → MultiLocalizedUnicodeType (tag c) rs → length rs ≤ length (c .slots) / textWords → MlucSaid l c rs
-  mluc-accepted c rs whole h room =
-      let e = mluc-conforms (c .profile) (c .entry) (c .size) whole (length (c .slots)) rs h room in
-      record { answer-is = p .answers string c ∙ e; slots-are = p .leaves-so string c ∙ rw (e, mluc-records (tag c) rs h) }
-
-  -- what is accepted is taken
-  string-taken : (c : Call) (a : Text·Answer) → Value a → says l string c ≡ a → (meaning string c ≡ a) × Taken (tag c) a
-  string-taken c a v h =
-      let e : meaning string c ≡ a = sym (p .answers string c) ∙ h in
-      let k = accepted (c .profile) (c .entry) (c .size) (length (c .slots)) (subst Value (sym e) v) in
-      (e, subst (Taken (tag c)) e (k .laid))
-
-  mluc-taken : (c : Call) (n : ℕ) → says l string c ≡ Text·Answer.mluc n → MlucAs l c
-  mluc-taken c n h =
-      let k = string-taken c (Text·Answer.mluc n) tt h in
-      let count = k .1 .count-is in
-      record {
-        records = recordsIn (tag c) .records;
-        taken = k .1 .taken;
-        said = record { answer-is = h ∙ ap Text·Answer.mluc count; slots-are = p .leaves-so string c ∙ rw (k .0) };
-      }
 
   -- ---- the view
 
@@ -163,12 +129,16 @@ module _ (l : Library) (p : Promised l) where
         wide-read = λ walk c reserved reserved2 n m x rest i long f en em z e. p .answers (lut walk) c ∙ profile-read16 (c .entries) (c .points) (c .profile) (c .entry) (c .size) (length (c .slots)) i long walk reserved reserved2 n m x rest f en em z e;
         narrow-read = λ walk c reserved reserved2 x rest i long f z e. p .answers (lut walk) c ∙ profile-read8 (c .entries) (c .points) (c .profile) (c .entry) (c .size) (length (c .slots)) i long walk reserved reserved2 x rest f z e;
         mft-written = mft-written;
-        text-accepted = text-accepted;
-        text-taken = λ c s h. string-taken c _ tt h .1;
-        desc-accepted = desc-accepted;
-        desc-taken = λ c s u h. string-taken c _ tt h .1;
-        mluc-accepted = mluc-accepted;
-        mluc-taken = mluc-taken;
+        text-read = λ c reserved cs h i e. p .answers string c ∙ Text.text-written (c .profile) (c .entry) (c .size) i (length (c .slots)) reserved cs h e;
+        text-written = λ c b s e. Text.text-read (c .profile) b (c .entry) (c .size) (length (c .slots)) s (sym (p .answers string c) ∙ e);
+        desc-read = λ c reserved d rest h i e. p .answers string c ∙ Text.desc-written (c .profile) (c .entry) (c .size) i (length (c .slots)) reserved d rest h e;
+        desc-written = λ c b s u e. Text.desc-read (c .profile) b (c .entry) (c .size) (length (c .slots)) s u (sym (p .answers string c) ∙ e);
+        mluc-read =
+            λ c t h i room.
+            (p .answers string c ∙ Text.mluc-written (c .profile) (c .entry) (c .size) i (length (c .slots)) t h room, p .leaves-so string c ∙ Text.mluc-left (c .profile) (c .entry) (c .size) i (c .slots) t h room);
+        mluc-written =
+            λ c b n e.
+            subst (ReadLocalized (c .profile) (c .entry) (c .size) n (c .slots)) (sym (p .leaves-so string c)) (Text.mluc-read (c .profile) b (c .entry) (c .size) (c .slots) n (sym (p .answers string c) ∙ e));
         chad-read = λ c reserved ns n f i e. p .answers (small chad) c ∙ Small·Conforms.chad-written (c .profile) (c .entry) (c .size) reserved ns n f i e;
         chad-written = λ c ws b v. Small·Conforms.chad-read (c .profile) (c .entry) (c .size) ws b (sym (p .answers (small chad) c) ∙ v);
         sig-read = small-read sig signatureType signatureTold _ Small·Conforms.sig-written;

@@ -33,11 +33,11 @@ use Rattle.text_meaning.specs.Answer.{Answer as Text·Answer, leftBy as Text·l
 use Rattle.text_meaning.specs.Layout.{asciiEnd}
 use Rattle.text_meaning.specs.Mluc.{End, whole, stopped, header, string as string-fault, recordsIn, recordsAsked, wordsIn, recordWords as textWords}
 use Rattle.text_meaning.specs.Text.{textOf, descOf, slottedOf, endedBy, mlucOf, byType, stringOf, tagOf as Text·tagOf}
-use Rattle.text_meaning.proofs.Conforms.{Taken, accepted}
 use Rattle.text_meaning.proofs.Found.{Value}
 use Rattle.text_meaning.proofs.Last.{fourteen-behind as text-fourteen, enough as text-enough}
 use Rattle.text_meaning.proofs.More.{more-bytes as text-bytes, more-slots as text-slots, value-stays as text-stays}
 use Rattle.text_meaning.proofs.Shared.{words-length}
+use Rattle.text_meaning.proofs.Taken.{Taken, accepted}
 use Rattle.demands.specs.Readers.{Small, chad, sig, date, meas, view, xyz, cicp, Reader, lut, trc, string, small, Call, smallOf, meaning, left, Outcome, value, default, absent, refused, outcome, lutOutcome, curveOutcome, smallOutcome, textOutcome, Library, ends, Promised}
 use Rattle.demands.specs.Demands.{tag, appended, raised, lent, Same, ByBytes, ByLimits, BySlots, wordsAsked, Demand3, given}
 use Rattle.demands.proofs.Ends.{Spares, left-spared, ends-so}

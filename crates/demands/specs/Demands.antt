@@ -12,6 +12,7 @@ use Rattle.icc.specs.Elements.{LutParts, LutTag}
 use Rattle.icc.specs.Numbers.{Is32, Each16, Each32, Bytes}
 use Rattle.icc.specs.Small.{DateTime, dateTimeNumber, s15Fixed16ArrayType, signatureType, dateTimeType, measurementType, viewingConditionsType, cicpType}
 use Rattle.icc.specs.Tables.{Lut, nine, Sized, Entries16, lut16Type, lut8Type}
+use Rattle.icc.specs.Text.{Ascii, terminated, textType, Description, IsDescription, textDescriptionType, LocalizedTag}
 use Rattle.fields.specs.Bytes.{u16At, u32At, wordsAt}
 use Rattle.fields.specs.Place.{tagAt, countedSize}
 use Rattle.fields.specs.Tag.{signatureOf}
@@ -31,9 +32,8 @@ use Rattle.lut_meaning.specs.Layout.{planOf, recordsNeeded}
 use Rattle.lut_meaning.specs.Parts.{curvesOf}
 use Rattle.lut_meaning.specs.Standard.{Counts, told, recordsWritten, PartsTaken, CurvesTaken, PartsAs, TagAs, PassesBy}
 use Rattle.text_meaning.specs.Answer.{Answer as Text·Answer, Span, span, Unicode}
-use Rattle.text_meaning.specs.Layout.{textStart, asciiStart, asciiEnd, unicodeLanguage}
-use Rattle.text_meaning.specs.Mluc.{Localized, recordsAsked, recordWords as textWords, wordsIn}
-use Rattle.text_meaning.specs.Standard.{TextType, TextDescriptionType, MultiLocalizedUnicodeType, TextTaken, DescriptionTaken, RecordsTaken, unicodeRange}
+use Rattle.text_meaning.specs.Mluc.{recordsAsked, recordWords as textWords}
+use Rattle.text_meaning.specs.Standard.{BeginsText, descriptionTold, BeginsDescription, Asked as MlucAsked, recordsTold, ReadLocalized}
 use Rattle.small_meaning.specs.Answer.{Answer as Small·Answer}
 use Rattle.small_meaning.specs.Standard.{signatureTold, someXyzType, firstTold, measurementTold, viewTold, cicpTold, WrittenRead, ReadWritten, BeginsNine, BeginsDate}
 use Rattle.table_meaning.specs.Answer.{Told, paper as Table·paper}
@@ -210,16 +210,6 @@ bytes c = take (c .size) (drop (c .entry) (c .profile))
 abbrev pub InProfile : Call → Type 0
 InProfile c = c .entry + c .size ≤ length (c .profile)
 
--- `mluc` is answered with these records
-pub record MlucSaid (l : Library) (c : Call) (rs : List Localized) : Type 0 where
-  pub answer-is : says l string c ≡ Text·Answer.mluc (length rs)
-  pub slots-are : l .leaves string c ≡ wordsIn rs ++ drop (length (wordsIn rs)) (c .slots)
-
-pub record MlucAs (l : Library) (c : Call) : Type 0 where
-  pub records : List Localized
-  pub taken : RecordsTaken (tag c) records
-  pub said : MlucSaid l c records
-
 -- a small reader, under whatever limits and slots
 abbrev pub reader : Library → Call → Small → List ℕ → ℕ → ℕ → Small·Answer
 reader l c s p entry size = says l (small s) record { profile = p; entry = entry; size = size; entries = c .entries; points = c .points; slots = c .slots }
@@ -255,13 +245,14 @@ pub record Demand2 (l : Library) : Type 0 where
   pub wide-read : (walk : Walk) (c : Call) (reserved reserved2 n m : ℕ) (x : Lut) (rest : List ℕ) → InProfile c → 48 ≤ c .size → MftTaken (c .points) x → Entries16 n → Entries16 m → Sized n m x → bytes c ≡ lut16Type reserved reserved2 n m x ++ rest → says l (lut walk) c ≡ record { state = mft (told16 n m x); grid = replicate 16 0; matrix = nine (x .matrix); bias = replicate 3 0 }
   pub narrow-read : (walk : Walk) (c : Call) (reserved reserved2 : ℕ) (x : Lut) (rest : List ℕ) → InProfile c → 48 ≤ c .size → MftTaken (c .points) x → Sized 256 256 x → bytes c ≡ lut8Type reserved reserved2 x ++ rest → says l (lut walk) c ≡ record { state = mft (told8 x); grid = replicate 16 0; matrix = nine (x .matrix); bias = replicate 3 0 }
   pub mft-written : (walk : Walk) (c : Call) → Bytes (c .profile) → (f : Fields) → says l (lut walk) c .state ≡ mft f → let matrix : List ℕ = says l (lut walk) c .matrix in InProfile c × (Begins8 (c .points) (bytes c) f matrix ⊎ Begins16 (c .points) (bytes c) f matrix)
-  -- textType, textDescriptionType and multiLocalizedUnicodeType; what is taken besides stands in text_meaning/specs/Standard.antt
-  pub text-accepted : (c : Call) (n : ℕ) → TagInside c → TextType (tag c) n → says l string c ≡ Text·Answer.text (span textStart n)
-  pub text-taken : (c : Call) (s : Span) → says l string c ≡ Text·Answer.text s → TextTaken (tag c) s
-  pub desc-accepted : (c : Call) (n m : ℕ) → TagInside c → TextDescriptionType (tag c) n m → let at : ℕ = asciiEnd (tag c) in says l string c ≡ Text·Answer.desc (span asciiStart n) record { language = unicodeLanguage (tag c) at; string = unicodeRange (tag c) at m }
-  pub desc-taken : (c : Call) (s : Span) (u : Unicode) → says l string c ≡ Text·Answer.desc s u → DescriptionTaken (tag c) s u
-  pub mluc-accepted : (c : Call) (rs : List Localized) → TagInside c → MultiLocalizedUnicodeType (tag c) rs → length rs ≤ length (c .slots) / textWords → MlucSaid l c rs
-  pub mluc-taken : (c : Call) (n : ℕ) → says l string c ≡ Text·Answer.mluc n → MlucAs l c
+  -- textType, textDescriptionType and multiLocalizedUnicodeType, as `icc` writes them; what is taken besides stands in
+  -- text_meaning/specs/Standard.antt
+  pub text-read : (c : Call) (reserved : ℕ) (cs : List ℕ) → Ascii cs → TagInside c → tag c ≡ textType reserved (terminated cs) → says l string c ≡ Text·Answer.text (span 8 (length cs))
+  pub text-written : (c : Call) → Bytes (c .profile) → (s : Span) → says l string c ≡ Text·Answer.text s → TagInside c × BeginsText (tag c) s
+  pub desc-read : (c : Call) (reserved : ℕ) (d : Description) (rest : List ℕ) → IsDescription d → TagInside c → tag c ≡ textDescriptionType reserved d ++ rest → says l string c ≡ descriptionTold d
+  pub desc-written : (c : Call) → Bytes (c .profile) → (s : Span) (u : Unicode) → says l string c ≡ Text·Answer.desc s u → TagInside c × BeginsDescription (tag c) s u
+  pub mluc-read : (c : Call) (t : LocalizedTag (tag c)) → MlucAsked t → TagInside c → length (t .records) * 4 ≤ length (c .slots) → let records : List ℕ = recordsTold (t .records) in (says l string c ≡ Text·Answer.mluc (length (t .records))) × (l .leaves string c ≡ records ++ drop (length records) (c .slots))
+  pub mluc-written : (c : Call) → Bytes (c .profile) → (n : ℕ) → says l string c ≡ Text·Answer.mluc n → ReadLocalized (c .profile) (c .entry) (c .size) n (c .slots) (l .leaves string c)
   -- the types of the small readers; of an XYZType the first number is answered, and of a date the one at the front of the profile
   pub chad-read : (c : Call) (reserved : ℕ) (ns : List ℕ) → length ns ≡ 9 → Each32 ns → InProfile c → bytes c ≡ s15Fixed16ArrayType reserved ns → says l (small chad) c ≡ Small·Answer.value ns
   pub chad-written : (c : Call) (ws : List ℕ) → Bytes (c .profile) → says l (small chad) c ≡ Small·Answer.value ws → BeginsNine (c .profile) (c .entry) (c .size) ws

@@ -32,6 +32,14 @@ unfolding halvesAt
 halves-length s i zero = refl
 halves-length s i (suc n) = ap suc (halves-length s (i + 2) n)
 
+pub half-at : (s : List ℕ) (i n k : ℕ) → k < n → getD (halvesAt s i n) k 0 ≡ u16At s (i + 2 * k)
+unfolding halvesAt
+half-at s i zero k h = absurd (omega arith)
+half-at s i (suc n) zero h = let e : i ≡ i + 2 * 0 = omega arith in ap (u16At s) e
+half-at s i (suc n) (suc k) h =
+    let e : (i + 2) + 2 * k ≡ i + 2 * suc k = omega arith in
+    half-at s (i + 2) n k (omega arith) ∙ ap (u16At s) e
+
 -- ---- written, then read
 
 pub read16 : (n : ℕ) → Is16 n → n / 256 % 256 * 256 + n % 256 ≡ n
@@ -76,13 +84,13 @@ pub word-drop : (s : List ℕ) (i k : ℕ) → u32At (drop i s) k ≡ u32At s (i
 word-drop s i k =
     rw (getD-drop i s k 0, getD-drop i s (k + 1) 0, getD-drop i s (k + 2) 0, getD-drop i s (k + 3) 0, add-assoc i k 1, add-assoc i k 2, add-assoc i k 3)
 
+pub half-drop : (s : List ℕ) (i k : ℕ) → u16At (drop i s) k ≡ u16At s (i + k)
+half-drop s i k = rw (getD-drop i s k 0, getD-drop i s (k + 1) 0, add-assoc i k 1)
+
 pub words-drop : (s : List ℕ) (i k n : ℕ) → wordsAt (drop i s) k n ≡ wordsAt s (i + k) n
 unfolding wordsAt
 words-drop s i k zero = refl
 words-drop s i k (suc n) = rw (word-drop s i k, words-drop s i (k + 4) n, add-assoc i k 4)
-
-pub half-drop : (s : List ℕ) (i k : ℕ) → u16At (drop i s) k ≡ u16At s (i + k)
-half-drop s i k = rw (getD-drop i s k 0, getD-drop i s (k + 1) 0, add-assoc i k 1)
 
 pub halves-drop : (s : List ℕ) (i k n : ℕ) → halvesAt (drop i s) k n ≡ halvesAt s (i + k) n
 unfolding halvesAt
@@ -94,15 +102,6 @@ unfolding bytesAt
 bytes-drop s i k zero = refl
 bytes-drop s i k (suc n) = rw (getD-drop i s k 0, bytes-drop s i (k + 1) n, add-assoc i k 1)
 
--- one of a row of numbers of 16 bits
-pub half-at : (ns rest : List ℕ) → Each16 ns → (i : ℕ) → i < length ns → u16At (each16 ns ++ rest) (i * 2) ≡ getD ns i 0
-unfolding each16 Each16
-half-at [] rest h i l = absurd (omega arith)
-half-at (n ∷ ns) rest (h, hs) zero l = read16 n h
-half-at (n ∷ ns) rest (h, hs) (suc i) l =
-    let e : suc i * 2 ≡ 2 + i * 2 = omega arith in
-    ap (u16At (each16 (n ∷ ns) ++ rest)) e ∙ sym (half-drop (each16 (n ∷ ns) ++ rest) 2 (i * 2)) ∙ half-at ns rest hs i (omega arith)
-
 -- a row that is written is read again
 pub words-written : (ns rest : List ℕ) → Each32 ns → wordsAt (each32 ns ++ rest) 0 (length ns) ≡ ns
 unfolding wordsAt each32 Each32
@@ -113,6 +112,12 @@ pub halves-written : (ns rest : List ℕ) → Each16 ns → halvesAt (each16 ns 
 unfolding halvesAt each16 Each16
 halves-written [] rest h = refl
 halves-written (n ∷ ns) rest (h, hs) = rw (read16 n h, ← halves-drop (be16 n ++ (each16 ns ++ rest)) 2 0 (length ns), halves-written ns rest hs)
+
+pub half-written : (ns rest : List ℕ) → Each16 ns → (i : ℕ) → i < length ns → u16At (each16 ns ++ rest) (i * 2) ≡ getD ns i 0
+half-written ns rest h i l =
+    let s : List ℕ = each16 ns ++ rest in
+    let e : i * 2 ≡ 0 + 2 * i = omega arith in
+    ap (u16At s) e ∙ sym (half-at s 0 (length ns) i l) ∙ ap (λ (ms : List ℕ). getD ms i 0) (halves-written ns rest h)
 
 pub bytes-written : (bs rest : List ℕ) → bytesAt (bs ++ rest) 0 (length bs) ≡ bs
 unfolding bytesAt

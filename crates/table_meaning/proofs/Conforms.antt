@@ -14,7 +14,7 @@ use Rattle.icc.specs.Grid.{InGrid, Coloured}
 use Rattle.icc.specs.Numbers.{each16, each32, Each16}
 use Rattle.icc.specs.Tables.{Lut, Sized, lut16Type, lut8Type}
 use Rattle.fields.specs.Place.{countedSize}
-use Rattle.fields.proofs.Written.{length16, half-at, half-drop}
+use Rattle.fields.proofs.Written.{length16, half-drop, half-written}
 use Rattle.clut_meaning.specs.Table.{Table, product, pointOf, numberOf}
 use Rattle.clut_meaning.proofs.Conforms.{points-are, precision-least}
 use Rattle.clut_meaning.proofs.Grid.{below, point-below, power-is}
@@ -38,7 +38,7 @@ stored t start (bytes ns) rest d f i l =
     let e : i * 1 ≡ i = omega arith in
     rw e (sym (getD-drop start t i 0) ∙ ap (λ (s : List ℕ). getD s i 0) d ∙ List·getD-append ns rest 0 i l)
 stored t start (words ns) rest d f i l =
-    sym (half-drop t start (i * 2)) ∙ ap (λ (s : List ℕ). getD s (i * 2) 0 * 256 + getD s (i * 2 + 1) 0) d ∙ half-at ns rest f i l
+    sym (half-drop t start (i * 2)) ∙ ap (λ (s : List ℕ). getD s (i * 2) 0 * 256 + getD s (i * 2 + 1) 0) d ∙ half-written ns rest f i l
 
 -- entries that stand at a table's start, on its grid, are shown as the colours that they are
 module _ (t : List ℕ) (shown : List ℕ → ℕ → Told) (grid : List ℕ) (outputs start : ℕ) (e : Entries) (rest : List ℕ) where

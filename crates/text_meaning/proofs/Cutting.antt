@@ -1,16 +1,19 @@
--- Trailing zeros cut: the loop that cuts them, and that what is left is what `Cut` says, and nothing else is.
+-- Trailing zeros cut: the loop that cuts them, that what is left is what `Cut` says, and nothing else is, and that it is a string with zeros
+-- behind it, itself not ended by one.
 -- Assumes nothing.
 use Prim.Native.Nat.{ℕ, zero, suc, _+_, _-_, _*_, _≤_, _<_}
 use native.Mathlib.Omega.{arith}
 use mathlib.Core.Path.{_≡_, refl, sym, ap, _∙_}
 use mathlib.Core.Bool.{Bool, true, false}
-use mathlib.Core.List.{List}
+use mathlib.Core.List.{List, [], _∷_, _++_}
 use lib.Dec.{ltb, eqb}
-use lib.ListN.{getD}
+use lib.ListN.{length, getD, take, drop, replicate, length-append, length-drop, length-replicate, getD-replicate, take-append-drop, List·getD-append}
+use lib.Seq.{ext-getD, getD-take, getD-drop, getD-append-seam, length-take-le, take-length, take-suc}
 use borrow.Author.Tests.{eq-eqb, ne-eqb, eqb-true, eqb-false, ltb-true, ltb-false}
 use Rattle.fields.specs.Bytes.{u16At}
 use Rattle.fields.proofs.Choice.{each}
 use Rattle.text_meaning.specs.Cut.{byteOf, unitOf, keptOf, Cut}
+use Rattle.text_meaning.specs.Standard.{NoZeroLast}
 
 -- ---- the loop: what is left of fewer units is left of all
 
@@ -85,3 +88,61 @@ module _ (unit : ℕ → ℕ) where
       by true e b' f = absurd (less n m (keptOf unit n) c (kept-cut n) (ltb-true m (keptOf unit n) e))
       by false e true f = absurd (less n (keptOf unit n) m (kept-cut n) c (ltb-true (keptOf unit n) m f))
       by false e false f = omega (arith, ltb-false m (keptOf unit n) e, ltb-false (keptOf unit n) m f)
+
+-- ---- of a list: a string, and zeros behind it
+
+zero-at : (k i : ℕ) → _≡_ {A = ℕ} (getD (replicate k 0) i 0) 0
+zero-at zero i = refl
+zero-at (suc k) zero = refl
+zero-at (suc k) (suc i) = zero-at k i
+
+zero-behind : (s : List ℕ) (k i : ℕ) → length s ≤ i → getD (s ++ replicate k 0) i 0 ≡ 0
+zero-behind [] k i l = zero-at k i
+zero-behind (x ∷ s) k zero l = absurd (omega arith)
+zero-behind (x ∷ s) k (suc i) l = zero-behind s k i (omega arith)
+
+module _ (unit : ℕ → ℕ) where
+  pub string-cut : (s : List ℕ) (k : ℕ) → NoZeroLast s → ((i : ℕ) → i < length s + k → unit i ≡ getD (s ++ replicate k 0) i 0) → Cut unit (length s + k) (length s)
+  string-cut s k h same =
+      record { within = omega arith; zeros = λ i l m. same i m ∙ zero-behind s k i l; last = ends }
+    where
+      ends : (i : ℕ) → suc i ≡ length s → unit i ≡ 0 → ⊥
+      ends i e z =
+          let l : i < length s = omega (arith, e) in
+          let m : i < length s + k = omega (arith, e) in
+          let last : getD s i 0 ≡ 0 = sym (List·getD-append s (replicate k 0) 0 i l) ∙ sym (same i m) ∙ z in
+          let all : take (suc i) s ≡ s = ap (λ (n : ℕ). take n s) e ∙ take-length s in
+          h (take i s) (sym all ∙ take-suc s i 0 l ∙ ap (λ (x : ℕ). take i s ++ (x ∷ [])) last)
+
+  -- and back
+  pub record CutString (s : List ℕ) (m : ℕ) : Type 0 where
+    pub zeros : ℕ
+    pub long : length (take m s) ≡ m
+    pub all : m + zeros ≡ length s
+    pub is : s ≡ take m s ++ replicate zeros 0
+    pub cut : NoZeroLast (take m s)
+
+  pub cut-string : (s : List ℕ) (n m : ℕ) → length s ≡ n → ((i : ℕ) → i < n → getD s i 0 ≡ unit i) → Cut unit n m → CutString s m
+  cut-string s n m e same c =
+      let w : m ≤ length s = omega (arith, c .within, e) in
+      let long : length (take m s) ≡ m = length-take-le m s w in
+      let zeros : ℕ = length (drop m s) in
+      record {
+        zeros = zeros;
+        long = long;
+        all = omega (arith, length-drop m s);
+        is = sym (take-append-drop m s) ∙ ap (λ (z : List ℕ). take m s ++ z) behind;
+        cut = λ front f. ended front f;
+      }
+    where
+      behind : drop m s ≡ replicate (length (drop m s)) 0
+      behind = ext-getD 0 (drop m s) (replicate (length (drop m s)) 0) (sym (length-replicate (length (drop m s)) 0))
+          (λ i l. let k : m + i < n = omega (arith, e, length-drop m s) in getD-drop m s i 0 ∙ same (m + i) k ∙ c .zeros (m + i) (omega arith) k ∙ sym (getD-replicate (length (drop m s)) i 0 0 l))
+
+      ended : (front : List ℕ) → take m s ≡ front ++ (0 ∷ []) → ⊥
+      ended front f =
+          let w : m ≤ length s = omega (arith, c .within, e) in
+          let k : suc (length front) ≡ m = omega (arith, length-append front (0 ∷ []), ap length f, length-take-le m s w) in
+          let l : length front < m = omega (arith, k) in
+          let z : getD s (length front) 0 ≡ 0 = sym (getD-take m s (length front) 0 l) ∙ ap (λ (x : List ℕ). getD x (length front) 0) f ∙ getD-append-seam front 0 [] 0 in
+          c .last (length front) k (sym (same (length front) (omega (arith, w, e))) ∙ z)

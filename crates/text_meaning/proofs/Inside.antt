@@ -15,10 +15,9 @@ use Rattle.fields.specs.Place.{countedSize}
 use Rattle.text_meaning.specs.Answer.{Answer, text, desc, mluc, absent, refused, Span, span, nowhere, Unicode, leftBy}
 use Rattle.text_meaning.specs.Layout.{asciiEnd, unicodeCount, unicodeStart, headerEnd, stringEnd}
 use Rattle.text_meaning.specs.Mluc.{Localized, header, string, is, no, Ran, first, localizedAt, recordAt, follow, recordsFrom, recordsAsked, recordsIn, recordWords, wordsOf, wordsIn}
-use Rattle.text_meaning.specs.Standard.{Row, UnicodeTaken, UnicodeShort, RecordTaken}
 use Rattle.text_meaning.specs.Text.{tagOf, stringOf}
-use Rattle.text_meaning.proofs.Conforms.{Taken, read-row, accepted}
 use Rattle.text_meaning.proofs.Found.{Value}
+use Rattle.text_meaning.proofs.Taken.{Row, UnicodeWhole, UnicodeShort, RecordTaken, Taken, read-row, accepted}
 
 -- ---- one range
 
@@ -26,7 +25,7 @@ use Rattle.text_meaning.proofs.Found.{Value}
 abbrev pub endOf : Span → ℕ
 endOf s = s .start + s .bytes
 
-unicode-inside : (t : List ℕ) (at : ℕ) (u : Unicode) → UnicodeTaken t at u ⊎ UnicodeShort t at u → endOf (u .string) ≤ length t
+unicode-inside : (t : List ℕ) (at : ℕ) (u : Unicode) → UnicodeWhole t at u ⊎ UnicodeShort t at u → endOf (u .string) ≤ length t
 unicode-inside t at u (inl h) = rw (h .answer-is) (by (eqb (unicodeCount t at) 0))
   where
     by : (b : Bool) → endOf (cond b nowhere (span (unicodeStart at) (2 * h .units))) ≤ length t

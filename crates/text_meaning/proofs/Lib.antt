@@ -2,6 +2,7 @@ pub mod Shared
 pub mod Cutting
 pub mod Unique
 pub mod Found
+pub mod Taken
 pub mod Conforms
 pub mod Proper
 pub mod Inside

@@ -1,58 +1,94 @@
--- The standards' definitions are met: a tag of each type that is well-formed, so that conformance speaks of something.
+-- What conformance asks of text is met: the tag of each type in the worked cases is one that the standards write, so it speaks of something.
 -- Assumes nothing.
-use Prim.Native.Nat.{ℕ, zero, suc, _≤_, _<_}
+use Prim.Native.Nat.{ℕ}
 use native.Mathlib.Omega.{arith}
 use mathlib.Core.Path.{_≡_, refl}
 use mathlib.Core.List.{List, [], _∷_, _++_}
-use mathlib.Core.Logic.{inr}
 use lib.ListN.{replicate}
-use Rattle.fields.specs.Tag.{signatureOf}
-use Rattle.text_meaning.specs.Cases.{word, textTag, descTag, mlucTag, english}
-use Rattle.text_meaning.specs.Cut.{byteOf, unitOf}
-use Rattle.text_meaning.specs.Mluc.{even}
-use Rattle.text_meaning.specs.Standard.{Ascii, TextType, TextDescriptionType, Row, MultiLocalizedUnicodeType}
+use Rattle.icc.specs.Numbers.{each16, Each16}
+use Rattle.icc.specs.Text.{Ascii, Utf16, terminated, textType, asciiPart, unicodePart, scriptPart, characters, unicodeString, IsUnicode, Description, textDescriptionType, IsDescription, Localized, recordElement, recordElements, localizedHead, StringsAt, LocalizedTag}
+use Rattle.text_meaning.specs.Cases.{word, mlucTag, english, fullText, fullDesc, fullMluc}
+use Rattle.text_meaning.specs.Standard.{AllFit, Asked}
 
--- "A" and the zero byte that ends it
-letter : (t : List ℕ) (start : ℕ) → byteOf t start 0 ≡ 0x41 → byteOf t start 1 ≡ 0 → Ascii t start 1
-letter t start e z = record { characters = one; ended = z }
-  where
-    one : (i : ℕ) → i < 1 → (1 ≤ byteOf t start i) × (byteOf t start i < 128)
-    one zero l = (omega (arith, e), omega (arith, e))
-    one (suc i) l = absurd (omega arith)
+abbrev abc : List ℕ
+abc = 0x41 ∷ 0x42 ∷ 0x43 ∷ []
 
-pub text-proper : TextType (textTag (0x41 ∷ 0 ∷ [])) 1
-unfolding signatureOf byteOf
-text-proper = record { signature = refl; reserved = refl; string = letter _ 8 refl refl; whole = refl }
+abc-ascii : Ascii abc
+unfolding Ascii
+abc-ascii = ((omega arith, omega arith), ((omega arith, omega arith), ((omega arith, omega arith), tt)))
 
--- the same in both strings of `desc`, and a ScriptCode part of zeros
-abbrev described : List ℕ
-described = descTag (word 2 ++ (0x41 ∷ 0 ∷ []) ++ word 9 ++ word 2 ++ (0 ∷ 0x41 ∷ 0 ∷ 0 ∷ []) ++ replicate 70 0)
+pub text-proper : Ascii abc × (fullText ≡ textType 0x01020304 (terminated abc))
+unfolding textType
+text-proper = (abc-ascii, refl)
 
-pub desc-proper : TextDescriptionType described 1 1
-unfolding signatureOf byteOf unitOf
-desc-proper =
+abbrev described : Description
+described = record { ascii = abc; language = 0x05060708; unicode = characters (0x0944 ∷ 0x0A45 ∷ []); scriptCode = 0x0B0C; scriptCount = 13; script = replicate 67 14 }
+
+pub desc-proper : IsDescription described × (fullDesc ≡ textDescriptionType 0x01020304 described)
+unfolding Utf16 IsUnicode textDescriptionType asciiPart unicodePart scriptPart unicodeString each16
+desc-proper = (
+  record {
+    ascii = abc-ascii;
+    ascii-count = omega arith;
+    language = omega arith;
+    unicode = ((omega arith, omega arith), ((omega arith, omega arith), tt));
+    unicode-count = omega arith;
+    script = refl;
+  },
+  refl,
+)
+
+abbrev enUS : Localized
+enUS = record { language = 0x656E; country = 0x5553; bytes = 6; offset = 44; units = 0x0743 ∷ 0x0844 ∷ 0x0945 ∷ [] }
+
+abbrev deAT : Localized
+deAT = record { language = 0x6465; country = 0x4154; bytes = 4; offset = 40; units = 0x0541 ∷ 0x0642 ∷ [] }
+
+unfoldable pub localized : LocalizedTag fullMluc
+unfolding localizedHead recordElements recordElement StringsAt Each16 each16
+localized =
     record {
-      signature = refl;
-      reserved = refl;
-      count = refl;
-      ascii = letter _ 12 refl refl;
-      unicode = inr record { count = refl; characters = one; ended = refl };
-      whole = omega arith;
+      reserved = 0x01020304;
+      records = enUS ∷ deAT ∷ [];
+      begins = record { behind = 5 ∷ 0x41 ∷ 6 ∷ 0x42 ∷ 7 ∷ 0x43 ∷ 8 ∷ 0x44 ∷ 9 ∷ 0x45 ∷ []; is = refl };
+      strings = (
+        record { units = (omega arith, (omega arith, (omega arith, tt))); bytes = refl; in-tag = omega arith; stands = record { behind = []; is = refl } },
+        (
+          record {
+            units = (omega arith, (omega arith, tt));
+            bytes = refl;
+            in-tag = omega arith;
+            stands = record { behind = 7 ∷ 0x43 ∷ 8 ∷ 0x44 ∷ 9 ∷ 0x45 ∷ []; is = refl };
+          },
+          tt,
+        ),
+      );
     }
-  where
-    one : (i : ℕ) → i < 1 → 1 ≤ unitOf described 22 i
-    one zero l = omega arith
-    one (suc i) l = absurd (omega arith)
 
--- one record
-pub mluc-proper : MultiLocalizedUnicodeType (mlucTag (word 1) (english (word 2) (word 28) ++ (0 ∷ 0x41 ∷ []))) (record { language = 0x656e; country = 0x5553; start = 28; bytes = 2 } ∷ [])
-unfolding signatureOf Row even
+pub mluc-proper : Asked localized
+unfolding localized AllFit
 mluc-proper =
     record {
-      signature = refl;
-      reserved = refl;
-      count = refl;
       some-record = omega arith;
-      size = refl;
-      row = (record { language = refl; country = refl; start = refl; bytes = refl; units = refl; header-in-tag = omega arith; string-in-tag = omega arith }, tt);
+      count-fits = omega arith;
+      fit = (record { language = omega arith; country = omega arith; bytes = omega arith; offset = omega arith }, (record { language = omega arith; country = omega arith; bytes = omega arith; offset = omega arith }, tt));
     }
+
+-- and the smallest: a record, and no string
+abbrev nothing : Localized
+nothing = record { language = 0x656E; country = 0x5553; bytes = 0; offset = 28; units = [] }
+
+unfoldable pub smallest : LocalizedTag (mlucTag (word 1) (english (word 0) (word 28)))
+unfolding localizedHead recordElements recordElement StringsAt Each16 each16
+smallest =
+    record {
+      reserved = 0;
+      records = nothing ∷ [];
+      begins = record { behind = []; is = refl };
+      strings = (record { units = tt; bytes = refl; in-tag = omega arith; stands = record { behind = []; is = refl } }, tt);
+    }
+
+pub smallest-proper : Asked smallest
+unfolding smallest AllFit
+smallest-proper =
+    record { some-record = omega arith; count-fits = omega arith; fit = (record { language = omega arith; country = omega arith; bytes = omega arith; offset = omega arith }, tt) }

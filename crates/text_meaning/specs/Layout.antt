@@ -45,9 +45,6 @@ unicodeEnd t at = unicodeStart at + 2 * unicodeCount t at
 abbrev pub recordCount : List ℕ → ℕ
 recordCount t = u32At t 8
 
-abbrev pub recordSize : List ℕ → ℕ
-recordSize t = u32At t 12
-
 abbrev pub headerAt : ℕ → ℕ
 headerAt k = 16 + 12 * k
 

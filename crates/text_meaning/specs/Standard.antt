@@ -1,118 +1,132 @@
--- What the standards call well-formed text, in their words, and what the reader takes, which is more.
-use Prim.Native.Nat.{ℕ, _+_, _-_, _*_, _≤_, _<_}
+-- What the standards write of text, and this library takes and answers: what they ask, and in the records `Begins..` what is taken besides.
+-- Nothing here goes by the reader's own layout.
+use Prim.Native.Nat.{ℕ, _+_, _*_, _≤_, _<_}
 use mathlib.Core.Path.{_≡_}
 use mathlib.Core.Bool.{cond}
-use mathlib.Core.List.{List, [], _∷_}
+use mathlib.Core.List.{List, [], _∷_, _++_}
 use mathlib.Core.Logic.{_⊎_}
 use lib.Dec.{eqb}
-use lib.ListN.{length}
-use Rattle.fields.specs.Bytes.{u32At}
-use Rattle.fields.specs.Tag.{signatureOf}
-use Rattle.fields.specs.declared.Kind.the-variants.{Text, Desc, Mluc}
-use Rattle.text_meaning.specs.Answer.{Span, span, nowhere, Unicode}
-use Rattle.text_meaning.specs.Cut.{byteOf, unitOf, Cut}
-use Rattle.text_meaning.specs.Layout.{textStart, asciiStart, asciiCount, asciiEnd, unicodeLanguage, unicodeCount, unicodeStart, unicodeEnd, recordCount, recordSize, headerEnd, languageAt, countryAt, stringLength, stringStart, stringEnd}
-use Rattle.text_meaning.specs.Mluc.{Localized, even, localizedAt, recordsAsked}
+use lib.ListN.{length, take, drop, replicate}
+use Rattle.icc.specs.Elements.{Stands}
+use Rattle.icc.specs.Numbers.{be32, each16, Is16, Is32, Each16}
+use Rattle.icc.specs.Text.{textType, asciiPart, unicodePart, UnicodeString, no-string, characters, Description, Localized, localizedHead, LocalizedTag}
+use Rattle.text_meaning.specs.Answer.{Answer, desc, Span, span, Unicode}
 
--- ---- the standards
+-- the tag in its profile: a size of 0 counts as 12
+abbrev pub bytesIn : ℕ → ℕ
+bytesIn size = cond (eqb size 0) 12 size
 
--- n characters of 7-bit ASCII, and the zero byte that ends them
-pub record Ascii (t : List ℕ) (start n : ℕ) : Type 0 where
-  pub characters : (i : ℕ) → i < n → (1 ≤ byteOf t start i) × (byteOf t start i < 128)
-  pub ended : byteOf t start n ≡ 0
+abbrev pub TagInside : List ℕ → ℕ → ℕ → Type 0
+TagInside profile entry size = entry + bytesIn size ≤ length profile
 
--- the bytes t are a textType with a string of n characters
-pub record TextType (t : List ℕ) (n : ℕ) : Type 0 where
-  pub signature : u32At t 0 ≡ signatureOf Text
-  pub reserved : u32At t 4 ≡ 0
-  pub string : Ascii t textStart n
-  pub whole : length t ≡ textStart + n + 1
+abbrev pub tagIn : List ℕ → ℕ → ℕ → List ℕ
+tagIn profile entry size = take (bytesIn size) (drop entry profile)
 
--- a Unicode string of n characters is not there, or they stand before the zero unit that ends them
-pub record UnicodeNot (t : List ℕ) (at n : ℕ) : Type 0 where
-  pub count : unicodeCount t at ≡ 0
-  pub none : n ≡ 0
+-- of a string, zeros at its end are cut: this does not end with one
+abbrev pub NoZeroLast : List ℕ → Type 0
+NoZeroLast string = (front : List ℕ) → string ≡ front ++ (0 ∷ []) → ⊥
 
-pub record UnicodeThere (t : List ℕ) (at n : ℕ) : Type 0 where
-  pub count : unicodeCount t at ≡ n + 1
-  pub characters : (i : ℕ) → i < n → 1 ≤ unitOf t (unicodeStart at) i
-  pub ended : unitOf t (unicodeStart at) n ≡ 0
+-- ---- textType
 
--- the bytes t begin with a textDescriptionType with n ASCII characters and m Unicode characters; a ScriptCode part of 70 bytes ends it
-pub record TextDescriptionType (t : List ℕ) (n m : ℕ) : Type 0 where
-  pub signature : u32At t 0 ≡ signatureOf Desc
-  pub reserved : u32At t 4 ≡ 0
-  pub count : asciiCount t ≡ n + 1
-  pub ascii : Ascii t asciiStart n
-  pub unicode : UnicodeNot t (asciiEnd t) m ⊎ UnicodeThere t (asciiEnd t) m
-  pub whole : unicodeEnd t (asciiEnd t) + 70 ≤ length t
+-- any bytes are taken, with any number of zeros behind them, or none
+pub record BeginsText (t : List ℕ) (s : Span) : Type 0 where
+  pub reserved : ℕ
+  pub string : List ℕ
+  pub zeros : ℕ
+  pub cut : NoZeroLast string
+  pub is : t ≡ textType reserved (string ++ replicate zeros 0)
+  pub answer-is : s ≡ span 8 (length string)
 
--- record k says this of a string of whole units, which lies in the tag
-pub record RecordLaid (t : List ℕ) (k : ℕ) (r : Localized) : Type 0 where
-  pub language : r .language ≡ languageAt t k
-  pub country : r .country ≡ countryAt t k
-  pub start : r .start ≡ stringStart t k
-  pub bytes : r .bytes ≡ stringLength t k
-  pub units : even (stringLength t k) ≡ stringLength t k
-  pub header-in-tag : headerEnd k ≤ length t
-  pub string-in-tag : stringEnd t k ≤ length t
+-- ---- textDescriptionType
 
--- a condition on each of the records from record k on
-unfoldable pub Row : (ℕ → Localized → Type 0) → ℕ → List Localized → Type 0
-Row P k [] = Unit
-Row P k (r ∷ rs) = P k r × Row P (k + 1) rs
+-- the answer: the Unicode string stands behind 20 bytes and the n bytes of the ASCII string; one that is not there is 0 bytes at 0
+abbrev pub unicodeTold : ℕ → UnicodeString → Span
+unicodeTold start no-string = span 0 0
+unicodeTold start (characters cs) = span start (2 * length cs)
 
--- the bytes t begin with a multiLocalizedUnicodeType with these records
-pub record MultiLocalizedUnicodeType (t : List ℕ) (rs : List Localized) : Type 0 where
-  pub signature : u32At t 0 ≡ signatureOf Mluc
-  pub reserved : u32At t 4 ≡ 0
-  pub count : recordCount t ≡ length rs
-  pub some-record : 1 ≤ length rs
-  pub size : recordSize t ≡ 12
-  pub row : Row (RecordLaid t) 0 rs
+abbrev pub descriptionTold : Description → Answer
+descriptionTold d =
+    let n : ℕ = length (d .ascii) + 1 in
+    desc (span 12 (length (d .ascii))) record { language = d .language; string = unicodeTold (20 + n) (d .unicode) }
 
--- ---- what the reader takes: reserved bytes are not looked at
+-- bytes that are fewer than a language and a count, or than the string of that count
+pub data CutShort (part : List ℕ) : Type 0 where
+  no-count : length part < 8 → CutShort part
+  no-units : (language count : ℕ) (bytes : List ℕ) → Is32 count → part ≡ be32 language ++ be32 count ++ bytes → length bytes < 2 * count → CutShort part
 
--- `text`: any bytes, of which trailing zeros are cut, if there are any
-pub record TextTaken (t : List ℕ) (s : Span) : Type 0 where
-  pub signature : u32At t 0 ≡ signatureOf Text
-  pub start-is : s .start ≡ textStart
-  pub whole : textStart ≤ length t
-  pub string : Cut (byteOf t textStart) (length t - textStart) (s .bytes)
+-- what stands behind the ASCII string is a Unicode part, of any units and with any number of zeros behind them, or none; or it is cut short,
+-- and answered by language 0 and 0 bytes at 0, where a string of no units at all, not even zeros, stands too. The ScriptCode part is not
+-- looked at
+pub data UnicodeTaken (start : ℕ) (part : List ℕ) (u : Unicode) : Type 0 where
+  none : (language : ℕ) (rest : List ℕ) → Is32 language → part ≡ unicodePart language [] ++ rest → u ≡ record { language = language; string = span 0 0 } → UnicodeTaken start part u
+  some : (language : ℕ) (units : List ℕ) (zeros : ℕ) (rest : List ℕ) → Is32 language → Each16 units → 1 ≤ length units + zeros → Is32 (length units + zeros) → NoZeroLast units → part ≡ unicodePart language (units ++ replicate zeros 0) ++ rest → u ≡ record { language = language; string = span start (2 * length units) } → UnicodeTaken start part u
+  short : CutShort part → u ≡ record { language = 0; string = span 0 0 } → UnicodeTaken start part u
 
--- `desc`: a Unicode part that is not whole is taken for one that is not there; the ScriptCode part is not looked at
-pub record AsciiTaken (t : List ℕ) (s : Span) : Type 0 where
-  pub signature : u32At t 0 ≡ signatureOf Desc
-  pub start-is : s .start ≡ asciiStart
-  pub counted : asciiStart ≤ length t
-  pub whole : asciiEnd t ≤ length t
-  pub string : Cut (byteOf t asciiStart) (asciiCount t) (s .bytes)
+-- of the ASCII string any bytes are taken, as of textType
+pub record BeginsDescription (t : List ℕ) (s : Span) (u : Unicode) : Type 0 where
+  pub reserved : ℕ
+  pub string : List ℕ
+  pub zeros : ℕ
+  pub part : List ℕ
+  pub cut : NoZeroLast string
+  pub counted : Is32 (length string + zeros)
+  pub is : t ≡ asciiPart reserved (string ++ replicate zeros 0) ++ part
+  pub answer-is : s ≡ span 12 (length string)
+  pub unicode : UnicodeTaken (20 + (length string + zeros)) part u
 
--- the range of a Unicode string of n units; a count of 0 has none
-abbrev pub unicodeRange : List ℕ → ℕ → ℕ → Span
-unicodeRange t at n = cond (eqb (unicodeCount t at) 0) nowhere (span (unicodeStart at) (2 * n))
+-- ---- multiLocalizedUnicodeType
 
-pub record UnicodeTaken (t : List ℕ) (at : ℕ) (u : Unicode) : Type 0 where
-  pub units : ℕ
-  pub whole : unicodeEnd t at ≤ length t
-  pub string : Cut (unitOf t (unicodeStart at)) (unicodeCount t at) units
-  pub answer-is : u ≡ record { language = unicodeLanguage t at; string = unicodeRange t at units }
+-- numbers that their bytes hold
+pub record Fits (l : Localized) : Type 0 where
+  pub language : Is16 (l .language)
+  pub country : Is16 (l .country)
+  pub bytes : Is32 (l .bytes)
+  pub offset : Is32 (l .offset)
 
-pub record UnicodeShort (t : List ℕ) (at : ℕ) (u : Unicode) : Type 0 where
-  pub short : length t < unicodeEnd t at
-  pub answer-is : u ≡ record { language = 0; string = nowhere }
+unfoldable pub AllFit : List Localized → Type 0
+AllFit [] = Unit
+AllFit (l ∷ ls) = Fits l × AllFit ls
 
-pub record DescriptionTaken (t : List ℕ) (s : Span) (u : Unicode) : Type 0 where
-  pub ascii : AsciiTaken t s
-  pub unicode : UnicodeTaken t (asciiEnd t) u ⊎ UnicodeShort t (asciiEnd t) u
+-- what is asked of a tag: a record at least
+pub record Asked {t : List ℕ} (tag : LocalizedTag t) : Type 0 where
+  pub some-record : 1 ≤ length (tag .records)
+  pub count-fits : Is32 (length (tag .records))
+  pub fit : AllFit (tag .records)
 
--- `mluc`: a count of 0 is taken for 1, any record size for 12, and an odd last byte is dropped
-pub record RecordTaken (t : List ℕ) (k : ℕ) (r : Localized) : Type 0 where
-  pub is : r ≡ localizedAt t k
-  pub header-in-tag : headerEnd k ≤ length t
-  pub string-in-tag : stringEnd t k ≤ length t
+-- the words of the records: language, country, where the string starts, and the bytes of its units
+unfoldable pub recordsTold : List Localized → List ℕ
+recordsTold [] = []
+recordsTold (l ∷ ls) = l .language ∷ l .country ∷ l .offset ∷ 2 * length (l .units) ∷ recordsTold ls
 
-pub record RecordsTaken (t : List ℕ) (rs : List Localized) : Type 0 where
-  pub signature : u32At t 0 ≡ signatureOf Mluc
-  pub count : recordsAsked t ≡ length rs
-  pub row : Row (RecordTaken t) 0 rs
+-- a string of units that lies in the tag is taken, and one with an odd byte behind them, which is dropped
+pub record StringTaken (t : List ℕ) (l : Localized) : Type 0 where
+  pub odd : List ℕ
+  pub at-most-one : length odd ≤ 1
+  pub fits : Fits l
+  pub units : Each16 (l .units)
+  pub bytes : l .bytes ≡ 2 * length (l .units) + length odd
+  pub in-tag : l .offset ≤ length t
+  pub stands : Stands t (l .offset) (each16 (l .units) ++ odd)
+
+unfoldable pub StringsTaken : List ℕ → List Localized → Type 0
+StringsTaken t [] = Unit
+StringsTaken t (l ∷ ls) = StringTaken t l × StringsTaken t ls
+
+-- a count of 0 is taken for 1, and any record size for 12
+pub record BeginsLocalized (t : List ℕ) (ls : List Localized) : Type 0 where
+  pub reserved : ℕ
+  pub count : ℕ
+  pub size : ℕ
+  pub count-fits : Is32 count
+  pub records : ((1 ≤ count) × (length ls ≡ count)) ⊎ ((count ≡ 0) × (length ls ≡ 1))
+  pub begins : Stands t 0 (localizedHead reserved count size ls)
+  pub strings : StringsTaken t ls
+
+-- a tag of n such records, and the slots as they were lent and as they are left
+pub record ReadLocalized (profile : List ℕ) (entry size n : ℕ) (slots left : List ℕ) : Type 0 where
+  pub inside : TagInside profile entry size
+  pub records : List Localized
+  pub begins : BeginsLocalized (tagIn profile entry size) records
+  pub count-is : n ≡ length records
+  pub room : length records * 4 ≤ length slots
+  pub left-is : left ≡ recordsTold records ++ drop (length (recordsTold records)) slots
