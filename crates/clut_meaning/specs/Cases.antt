@@ -65,6 +65,8 @@ cases =
     -- a product of 0 by a dimension, and by the output channels
     gives (tag (2 ∷ 0 ∷ 2 ∷ 0 ∷ []) 1) 3 3 (refused 5) ∷
     gives (tag cube 1) 3 0 (refused 5) ∷
+    -- 40 times 53 times 53 times 89, the least product of bytes above 10,000,000
+    gives (tag (40 ∷ 53 ∷ 53 ∷ 89 ∷ []) 1) 4 1 (refused 6) ∷
     -- a product below 2^32; one that has passed it is refused though a later factor is 0
     gives (tag (255 ∷ 255 ∷ 255 ∷ 255 ∷ []) 1) 4 1 (refused 6) ∷
     gives (shapeOnly (replicate 5 255 ++ replicate 11 0)) 6 1 (refused 4) ∷
