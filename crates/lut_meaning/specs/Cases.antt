@@ -10,7 +10,7 @@ use Rattle.curve_meaning.specs.Shape.{recordWords}
 use Rattle.curve_meaning.specs.declared.Walk.{Walk}
 use Rattle.curve_meaning.specs.declared.Walk.the-variants.{Crate, Book}
 use Rattle.run.specs.Cases.{single, gamma}
-use Rattle.mft_meaning.specs.Cases.{wide, wideFields, oneToNine}
+use Rattle.mft_meaning.specs.Cases.{wideFields, oneToNine}
 use Rattle.lut_meaning.specs.Answer.{State, mft, abm, Answer, none, refuse}
 use Rattle.lut_meaning.specs.Lut.{lutOf, leftOf}
 
@@ -99,6 +99,15 @@ fullBack =
 abbrev pub faulty : ℕ → ℕ → List ℕ
 faulty matrix clut = headOf 0x41 0x42 1 1 32 matrix 0 clut 0 ++ gridWith 2 3 ++ (3 ∷ 0 ∷ 0 ∷ 0 ∷ [])
 
+-- an `mft2` tag of one input and three outputs whose first matrix number is 52, where an empty curve would be if it were an `mAB ` tag
+abbrev pub mftTag : List ℕ
+mftTag =
+    (0x6d ∷ 0x66 ∷ 0x74 ∷ 0x32 ∷ 0 ∷ 0 ∷ 0 ∷ 0 ∷ 1 ∷ 3 ∷ 2 ∷ 0 ∷ 0 ∷ 0 ∷ 0 ∷ 52 ∷ [])
+    ++ replicate 32 0
+    ++ (0 ∷ 2 ∷ 0 ∷ 2 ∷ [])
+    ++ emptyCurve
+    ++ replicate 16 0
+
 -- a tag with these letters and so many channels that has no part, of 48 bytes
 abbrev pub bare : ℕ → ℕ → ℕ → ℕ → List ℕ
 bare x y inputs outputs = headOf x y inputs outputs 0 0 0 0 0 ++ replicate 16 0
@@ -154,8 +163,8 @@ cases =
     gives Book (faulty 32 32) 52 [] (refuse 2) [] ∷
     gives Book (faulty 0 32) 52 [] (refuse 8) [] ∷
     gives Book (faulty 0 0) 52 [] (refuse 9) [] ∷
-    -- `mft2` takes no slots
-    gives Book (wide 1 3 28) 80 (slots 1) record { state = mft wideFields; grid = replicate 16 0; matrix = oneToNine; bias = 0 ∷ 0 ∷ 0 ∷ [] } (slots 1) ∷
+    -- `mft2` takes no slots, and has neither sixteen grid bytes nor a bias
+    gives Book mftTag 80 (slots 1) record { state = mft wideFields; grid = replicate 16 0; matrix = 52 ∷ replicate 8 0; bias = 0 ∷ 0 ∷ 0 ∷ [] } (slots 1) ∷
     -- past the profile, also where it is under 48 bytes; under 48 bytes; a size of 0 counts as 12; another type
     gives Crate tag 73 (slots 3) (refuse 1) (slots 3) ∷
     gives Crate [] 0 [] (refuse 1) [] ∷
