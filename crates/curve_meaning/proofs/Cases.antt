@@ -7,8 +7,8 @@ use Rattle.curve_meaning.specs.Answer.{answerOf, goingOf, slotWith, seen
 use Rattle.curve_meaning.specs.Cases.{All, Holds, signedParameters, cases}
 use Rattle.curve_meaning.specs.Curve.{trcOf, curveOf, tableOf, paraOf, divides}
 use Rattle.curve_meaning.specs.Layout.{parameterCount}
-use Rattle.curve_meaning.specs.Shape.{sizeOf, stepOf, wordsOf}
+use Rattle.curve_meaning.specs.Shape.{tableShape, sizeOf, stepOf, wordsOf}
 
 pub claim : All cases
-unfolding trcOf answerOf goingOf slotWith seenIn wordsOf stepOf sizeOf curveOf tableOf paraOf divides parameterCount wordsAt signatureOf All Holds signedParameters
-claim = (refl, (refl, (refl, (refl, (refl, (refl, (refl, (refl, (refl, (refl, (refl, (refl, (refl, (refl, ((refl, refl), ((refl, refl), ((refl, refl), tt)))))))))))))))))
+unfolding tableShape trcOf answerOf goingOf slotWith seenIn wordsOf stepOf sizeOf curveOf tableOf paraOf divides parameterCount wordsAt signatureOf All Holds signedParameters
+claim = (refl, (refl, (refl, (refl, (refl, (refl, (refl, (refl, (refl, (refl, (refl, (refl, (refl, (refl, (refl, (refl, (refl, (refl, (refl, (refl, (refl, (refl, (refl, (refl, (refl, (refl, (refl, (refl, (refl, (refl, (refl, (refl, (refl, (refl, ((refl, refl), ((refl, refl), ((refl, refl), tt)))))))))))))))))))))))))))))))))))))

@@ -1,23 +1,28 @@
--- The worked cases of the tone curve: calls of the lone reader at offset 0, and their answers; and calls that write a curve's record.
+-- The worked cases of the tone curve: calls of the lone reader, and their answers; and calls that write a curve's record.
 use Prim.Native.Nat.{ℕ}
 use mathlib.Core.Path.{_≡_}
 use mathlib.Core.List.{List, [], _∷_, _++_, map}
 use lib.IntN.{ℤ, pos, negsuc}
-use lib.ListN.{drop, replicate}
+use lib.ListN.{take, drop, replicate}
 use Rattle.fields.specs.Bytes.{signed}
 use Rattle.fields.specs.House.{tagSize}
 use Rattle.curve_meaning.specs.Answer.{Answer, value, absent, refused, Going, on, stop, goingOf, slotWith, seenIn}
 use Rattle.curve_meaning.specs.Curve.{trcOf, curveOf}
+use Rattle.curve_meaning.specs.Shape.{Shape, empty, table, tableShape}
 use Rattle.curve_meaning.specs.declared.Walk.{Walk}
 use Rattle.curve_meaning.specs.declared.Walk.the-variants.{Crate, Book}
 
 pub data Case : Type 0 where
-  -- walk, limit, profile and size, and the answer
+  -- walk, limit, profile and size, and the answer at offset 0
   gives : Walk → ℕ → List ℕ → ℕ → Answer → Case
+  -- at another offset, on the crate walk, with a limit of 2
+  givesAt : List ℕ → ℕ → ℕ → Answer → Case
   -- walk, limit, profile and size, and the parameters of the answer's record as signed numbers
   means : Walk → ℕ → List ℕ → ℕ → List ℤ → Case
   -- walk, limit, a curve's bytes and a slot, and how far the walk goes on and the slot as it is left
   leaves : Walk → ℕ → List ℕ → List ℕ → Going → List ℕ → Case
+  -- a number of entries, and the curve
+  counts : ℕ → Shape → Case
 
 -- the seven parameters of a record, signed
 unfoldable pub signedParameters : Answer → List ℤ
@@ -27,10 +32,12 @@ signedParameters (refused n) = []
 
 unfoldable pub Holds : Case → Type 0
 Holds (gives walk limit profile size a) = trcOf walk limit profile 0 size ≡ a
+Holds (givesAt profile entry size a) = trcOf Crate 2 profile entry size ≡ a
 Holds (means walk limit profile size zs) = signedParameters (trcOf walk limit profile 0 size) ≡ zs
 Holds (leaves walk limit t slot g left) =
     let x = seenIn slot (curveOf limit t) in
     (goingOf walk x ≡ g) × (slotWith tagSize slot x ≡ left)
+Holds (counts n s) = tableShape n ≡ s
 
 unfoldable pub All : List Case → Type 0
 All [] = Unit
@@ -62,6 +69,13 @@ counting type =
     ++ (0 ∷ type ∷ 0 ∷ 0 ∷ 0 ∷ 0 ∷ 0 ∷ 1 ∷ 0 ∷ 0 ∷ 0 ∷ 2 ∷ 0 ∷ 0 ∷ 0 ∷ 3 ∷ [])
     ++ (0 ∷ 0 ∷ 0 ∷ 4 ∷ 0 ∷ 0 ∷ 0 ∷ 5 ∷ 0 ∷ 0 ∷ 0 ∷ 6 ∷ 0 ∷ 0 ∷ 0 ∷ 7 ∷ [])
 
+-- a function of a type whose second parameter is 0, and the others 5 to 10
+abbrev pub divisor : ℕ → List ℕ
+divisor type =
+    para
+    ++ (0 ∷ type ∷ 0 ∷ 0 ∷ 0 ∷ 0 ∷ 0 ∷ 5 ∷ 0 ∷ 0 ∷ 0 ∷ 0 ∷ 0 ∷ 0 ∷ 0 ∷ 6 ∷ [])
+    ++ (0 ∷ 0 ∷ 0 ∷ 7 ∷ 0 ∷ 0 ∷ 0 ∷ 8 ∷ 0 ∷ 0 ∷ 0 ∷ 9 ∷ 0 ∷ 0 ∷ 0 ∷ 10 ∷ [])
+
 abbrev pub cases : List Case
 cases =
     gives Crate 4096 none 12 (value (0 ∷ 12 ∷ 0 ∷ 0 ∷ 0 ∷ 0 ∷ 0 ∷ 0 ∷ 0 ∷ 0 ∷ []) 0) ∷
@@ -79,6 +93,32 @@ cases =
     gives Crate 4096 (counting 2) 28 (value (4 ∷ 12 ∷ 4 ∷ 1 ∷ 2 ∷ 3 ∷ 4 ∷ 0 ∷ 0 ∷ 0 ∷ []) 28) ∷
     gives Crate 4096 (counting 3) 32 (value (5 ∷ 12 ∷ 5 ∷ 1 ∷ 2 ∷ 3 ∷ 4 ∷ 5 ∷ 0 ∷ 0 ∷ []) 32) ∷
     gives Crate 4096 (counting 4) 40 (value (6 ∷ 12 ∷ 7 ∷ 1 ∷ 2 ∷ 3 ∷ 4 ∷ 5 ∷ 6 ∷ 7 ∷ []) 40) ∷
+    -- type 2 divides by its second parameter too; the others do not
+    gives Book 4096 (divisor 2) 28 (refused 13) ∷
+    gives Book 4096 (divisor 0) 16 (value (2 ∷ 12 ∷ 1 ∷ 5 ∷ 0 ∷ 0 ∷ 0 ∷ 0 ∷ 0 ∷ 0 ∷ []) 16) ∷
+    gives Book 4096 (divisor 3) 32 (value (5 ∷ 12 ∷ 5 ∷ 5 ∷ 0 ∷ 6 ∷ 7 ∷ 8 ∷ 0 ∷ 0 ∷ []) 32) ∷
+    gives Book 4096 (divisor 4) 40 (value (6 ∷ 12 ∷ 7 ∷ 5 ∷ 0 ∷ 6 ∷ 7 ∷ 8 ∷ 9 ∷ 10 ∷ []) 40) ∷
+    -- a parameter is cut off
+    gives Book 4096 (divisor 1) 23 (refused 11) ∷
+    -- another type, and a curve at its own offset, whose data start at 12 all the same
+    givesAt (9 ∷ 9 ∷ 9 ∷ two) 2 16 (refused 9) ∷
+    givesAt (9 ∷ 9 ∷ 9 ∷ two) 3 16 (value (1 ∷ 12 ∷ 2 ∷ 0 ∷ 0 ∷ 0 ∷ 0 ∷ 0 ∷ 0 ∷ 0 ∷ []) 16) ∷
+    -- past the profile; with size 0 the tag reaches up to its end, and must have 12 bytes
+    givesAt (9 ∷ 9 ∷ 9 ∷ two) 3 17 (refused 11) ∷
+    givesAt (9 ∷ 9 ∷ 9 ∷ two) 3 0 (value (1 ∷ 12 ∷ 2 ∷ 0 ∷ 0 ∷ 0 ∷ 0 ∷ 0 ∷ 0 ∷ 0 ∷ []) 16) ∷
+    givesAt (9 ∷ 9 ∷ 9 ∷ take 11 two) 3 0 (refused 11) ∷
+    -- a size of 1 to 11 is absent; so is a tag of which fewer than 4 bytes are left, whatever its size
+    givesAt (9 ∷ 9 ∷ 9 ∷ two) 3 1 absent ∷
+    givesAt (9 ∷ 9 ∷ 9 ∷ two) 3 11 absent ∷
+    givesAt (9 ∷ 9 ∷ 9 ∷ take 3 two) 3 0 absent ∷
+    givesAt (9 ∷ 9 ∷ 9 ∷ take 3 two) 3 12 absent ∷
+    givesAt (9 ∷ 9 ∷ 9 ∷ take 4 two) 3 0 (refused 11) ∷
+    givesAt (9 ∷ 9 ∷ 9 ∷ take 4 two) 3 12 (refused 11) ∷
+    -- no entries are an empty curve at every limit, and one is a table
+    gives Crate 0 none 12 (value (0 ∷ 12 ∷ 0 ∷ 0 ∷ 0 ∷ 0 ∷ 0 ∷ 0 ∷ 0 ∷ 0 ∷ []) 0) ∷
+    gives Book 1 (curv ++ (0 ∷ 0 ∷ 0 ∷ 1 ∷ 1 ∷ 2 ∷ [])) 14 (value (1 ∷ 12 ∷ 1 ∷ 0 ∷ 0 ∷ 0 ∷ 0 ∷ 0 ∷ 0 ∷ 0 ∷ []) 14) ∷
+    counts 0 empty ∷
+    counts 1 (table 1) ∷
     leaves Crate 4096 two (replicate 11 7) (on 16) (1 ∷ 12 ∷ 2 ∷ 0 ∷ 0 ∷ 0 ∷ 0 ∷ 0 ∷ 0 ∷ 0 ∷ 7 ∷ []) ∷
     leaves Crate 4096 many (replicate 10 7) (stop 10) (replicate 10 7) ∷
     leaves Crate 4096 many (replicate 9 7) (stop 14) (replicate 9 7) ∷

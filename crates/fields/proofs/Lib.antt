@@ -1,3 +1,4 @@
+pub mod Cases
 pub mod Append
 pub mod Words
 pub mod Choice

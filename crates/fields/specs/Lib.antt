@@ -3,3 +3,4 @@ pub mod Tag
 pub mod Place
 pub mod Refusals
 pub mod House
+pub mod Cases

@@ -1,13 +1,16 @@
--- The worked cases of `mAB ` hold, jointly: each is computed.
+-- The worked cases of lookup tables hold, jointly: each is computed.
 -- Assumes nothing.
 use mathlib.Core.Path.{refl}
 use Rattle.fields.specs.Bytes.{bytesAt, wordsAt}
 use Rattle.fields.specs.Tag.{signatureOf}
-use Rattle.clut_meaning.specs.Table.{product}
+use Rattle.clut_meaning.specs.Clut.{clutOf, shapeOf, some, partials}
+use Rattle.clut_meaning.specs.Table.{product, pointOf}
 use Rattle.curve_meaning.specs.Curve.{curveOf, tableOf as curvOf, paraOf, divides}
 use Rattle.curve_meaning.specs.Layout.{parameterCount}
 use Rattle.curve_meaning.specs.Shape.{sizeOf, stepOf, wordsOf}
-use Rattle.mft_meaning.specs.Layout.{isWide, isMft}
+use Rattle.mft_meaning.specs.Answer.{fieldsOf, answerOf}
+use Rattle.mft_meaning.specs.Layout.{isWide, isMft, entrySize, tablesStart, entriesAt, colourTable}
+use Rattle.mft_meaning.specs.Mft.{outside, badEntries, badChannels, badNumbers, tablesOf, numbersOf, mftOf}
 use Rattle.run.specs.Run.{raised, entryAt, runAt, recordsOf}
 use Rattle.lut_meaning.specs.Abm.{tableOf, valueFrom, recordedOf, judgedOf, abmOf}
 use Rattle.lut_meaning.specs.Cases.{All, Holds, cases}
@@ -17,5 +20,5 @@ use Rattle.lut_meaning.specs.Parts.{runsJudged, curvesOf, matrixJudged}
 use Rattle.lut_meaning.specs.Judged.{ended}
 
 pub claim : All cases
-unfolding All Holds lutOf byType isMft isWide abmOf judgedOf recordedOf valueFrom tableOf product runsJudged curvesOf matrixJudged ended present deviceChannels spaceChannels aCurves mCurves bCurves planOf recordsNeeded gridOf matrixOf biasOf bytesAt wordsAt runAt entryAt raised recordsOf curveOf curvOf paraOf divides parameterCount sizeOf stepOf wordsOf signatureOf
-claim = ((refl, refl), ((refl, refl), ((refl, refl), ((refl, refl), ((refl, refl), ((refl, refl), ((refl, refl), ((refl, refl), ((refl, refl), tt)))))))))
+unfolding All Holds lutOf byType isMft isWide answerOf fieldsOf mftOf numbersOf tablesOf badNumbers badChannels badEntries outside colourTable entriesAt tablesStart entrySize abmOf judgedOf recordedOf valueFrom tableOf clutOf shapeOf some partials product pointOf runsJudged curvesOf matrixJudged ended present deviceChannels spaceChannels aCurves mCurves bCurves planOf recordsNeeded gridOf matrixOf biasOf bytesAt wordsAt runAt entryAt raised recordsOf curveOf curvOf paraOf divides parameterCount sizeOf stepOf wordsOf signatureOf
+claim = ((refl, refl), ((refl, refl), ((refl, refl), ((refl, refl), ((refl, refl), ((refl, refl), ((refl, refl), ((refl, refl), ((refl, refl), ((refl, refl), ((refl, refl), ((refl, refl), ((refl, refl), ((refl, refl), ((refl, refl), ((refl, refl), ((refl, refl), ((refl, refl), ((refl, refl), ((refl, refl), ((refl, refl), ((refl, refl), ((refl, refl), ((refl, refl), tt))))))))))))))))))))))))

@@ -11,4 +11,4 @@ use Rattle.mft_meaning.specs.Mft.{outside, badEntries, badChannels, badN
 
 pub claim : All cases
 unfolding All Holds answerOf fieldsOf mftOf numbersOf tablesOf badNumbers badChannels badEntries outside colourTable entriesAt tablesStart entrySize isMft isWide product wordsAt signatureOf
-claim = (refl, (refl, (refl, (refl, (refl, (refl, (refl, (refl, (refl, tt)))))))))
+claim = (refl, (refl, (refl, (refl, (refl, (refl, (refl, (refl, (refl, (refl, (refl, (refl, (refl, (refl, (refl, (refl, (refl, (refl, (refl, (refl, (refl, (refl, (refl, (refl, (refl, (refl, (refl, tt)))))))))))))))))))))))))))
