@@ -13,7 +13,7 @@ use Rattle.fields.proofs.Written.{length16, then8, row8, row16, halvesAt, halve
 use Rattle.clut_meaning.specs.Clut.{is, gridAt, clutOf}
 use Rattle.clut_meaning.specs.Table.{Table, product, entriesOf, lengthOf}
 use Rattle.clut_meaning.specs.Standard.{Taken, told, Standing}
-use Rattle.clut_meaning.proofs.Accepted.{Laid, Within, conforms, accepted}
+use Rattle.clut_meaning.proofs.Laid.{Laid, Within, conforms, accepted}
 
 -- ---- the numbers of a CLUT
 

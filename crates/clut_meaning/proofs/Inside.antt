@@ -7,7 +7,7 @@ use mathlib.Core.List.{List}
 use lib.ListN.{length, getD}
 use Rattle.clut_meaning.specs.Clut.{is, mostEntries, clutOf}
 use Rattle.clut_meaning.specs.Table.{Table, entriesOf, lengthOf, inGrid, numberOf}
-use Rattle.clut_meaning.proofs.Accepted.{accepted}
+use Rattle.clut_meaning.proofs.Laid.{accepted}
 use Rattle.clut_meaning.proofs.Grid.{entry-below}
 
 pub record Inside (t : List ℕ) (table : Table) : Type 0 where

@@ -1,7 +1,7 @@
 pub mod Grid
 pub mod Order
 pub mod Unique
-pub mod Accepted
+pub mod Laid
 pub mod Inside
 pub mod Cases
 pub mod Conforms

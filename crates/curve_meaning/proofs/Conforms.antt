@@ -21,7 +21,7 @@ use Rattle.curve_meaning.specs.Shape.{Shape, is, empty, table, para, siz
 use Rattle.curve_meaning.specs.Standard.{shapeOf, Fits, Begins, toldOf, stepTold, Tag, Lone}
 use Rattle.curve_meaning.specs.declared.Walk.{Walk}
 use Rattle.curve_meaning.specs.declared.Walk.the-variants.{Crate, Book}
-use Rattle.curve_meaning.proofs.Accepted.{CurveType, ParametricCurveType, Laid, Within, accepted, laid}
+use Rattle.curve_meaning.proofs.Laid.{CurveType, ParametricCurveType, Laid, Within, accepted, laid}
 use Rattle.curve_meaning.proofs.Inside.{book-step, size-least, Accepted, accepted-inside}
 
 -- the five functions: each has a type, and as many parameters as the type says

@@ -14,7 +14,7 @@ use Rattle.curve_meaning.specs.Curve.{trcOf, curveOf, tagOf}
 use Rattle.curve_meaning.specs.Shape.{Shape, is, empty, table, para, sizeOf, stepOf}
 use Rattle.curve_meaning.specs.declared.Walk.{Walk}
 use Rattle.curve_meaning.specs.declared.Walk.the-variants.{Crate, Book}
-use Rattle.curve_meaning.proofs.Accepted.{Laid, laid}
+use Rattle.curve_meaning.proofs.Laid.{Laid, laid}
 use Rattle.curve_meaning.proofs.Told.{Told, told}
 
 -- ---- one curve

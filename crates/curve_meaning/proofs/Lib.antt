@@ -1,6 +1,6 @@
 pub mod Told
 pub mod Unique
-pub mod Accepted
+pub mod Laid
 pub mod Inside
 pub mod Conforms
 pub mod More

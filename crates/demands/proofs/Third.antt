@@ -23,7 +23,7 @@ use Rattle.curve_meaning.proofs.Last.{trc-not-14}
 use Rattle.curve_meaning.proofs.More.{Is as Curve·Is, short, more-bytes as curve-bytes, more-limit as curve-limit}
 use Rattle.lut_meaning.specs.Answer.{State, mft, abm, absent as State·absent, refused as State·refused, Answer as Lut·Answer}
 use Rattle.lut_meaning.specs.Lut.{lutOf}
-use Rattle.lut_meaning.proofs.Accepted.{IsValue}
+use Rattle.lut_meaning.proofs.Found.{IsValue}
 use Rattle.lut_meaning.proofs.Last.{fourteen-behind as lut-fourteen, enough as lut-enough}
 use Rattle.lut_meaning.proofs.More.{Is as Lut·Is, more-bytes as lut-bytes, more-limit as lut-limit, more-points as lut-points, more-slots as lut-slots, value-stays as lut-stays}
 use Rattle.small_meaning.specs.Answer.{Answer as Small·Answer}

@@ -18,9 +18,10 @@ use Rattle.icc.specs.Elements.{aToB, bToA, signature}
 use Rattle.icc.specs.Numbers.{be8, be16, be32, bits, IsFixed, s15Fixed16Number, each16, each32, Is16, Is32, Each16, Each32, Bytes}
 use Rattle.icc.specs.Small.{XYZNumber, DateTime, Measurement, ViewingConditions, Cicp, s15Fixed16ArrayType, signatureType, dateTimeType, measurementType, viewingConditionsType, xyzType, cicpType}
 use Rattle.icc.specs.Tables.{Lut, lut16Type, lut8Type}
+use Rattle.icc.specs.Text.{textType, asciiPart, Localized, localizedHead}
 use Rattle.fields.specs.Bytes.{number, u16At, u32At, bytesAt, wordsAt, signed}
 use Rattle.fields.specs.Tag.{signatureOf}
-use Rattle.fields.specs.declared.Kind.the-variants.{Curv, Para, Mft1, Mft2, Mab, Mba, Xyz, Sf32, Meas, View, Cicp as KindCicp, Sig, Dtim}
+use Rattle.fields.specs.declared.Kind.the-variants.{Curv, Para, Mft1, Mft2, Mab, Mba, Mluc, Desc, Text, Xyz, Sf32, Meas, View, Cicp as KindCicp, Sig, Dtim}
 
 -- 16-bit numbers one behind the other
 unfoldable pub halvesAt : List ℕ → ℕ → ℕ → List ℕ
@@ -227,9 +228,12 @@ pub record Signatures : Type 0 where
   pub view : (r : ℕ) (v : ViewingConditions) → u32At (viewingConditionsType r v) 0 ≡ signatureOf View
   pub xyz : (r : ℕ) (ns : List XYZNumber) → u32At (xyzType r ns) 0 ≡ signatureOf Xyz
   pub cicp : (r : ℕ) (c : Cicp) → u32At (cicpType r c) 0 ≡ signatureOf KindCicp
+  pub text : (r : ℕ) (s : List ℕ) → u32At (textType r s) 0 ≡ signatureOf Text
+  pub desc : (r : ℕ) (s : List ℕ) → u32At (asciiPart r s) 0 ≡ signatureOf Desc
+  pub mluc : (r n size : ℕ) (ls : List Localized) → u32At (localizedHead r n size ls) 0 ≡ signatureOf Mluc
 
 pub signatures : Signatures
-unfolding signatureOf curveType parametricCurveType lut8Type lut16Type s15Fixed16ArrayType signatureType dateTimeType measurementType viewingConditionsType xyzType cicpType
+unfolding signatureOf curveType parametricCurveType lut8Type lut16Type s15Fixed16ArrayType signatureType dateTimeType measurementType viewingConditionsType xyzType cicpType textType asciiPart localizedHead
 signatures =
     record {
       curv = λ r ns. refl;
@@ -245,4 +249,7 @@ signatures =
       view = λ r v. refl;
       xyz = λ r ns. refl;
       cicp = λ r c. refl;
+      text = λ r s. refl;
+      desc = λ r s. refl;
+      mluc = λ r n size ls. refl;
     }

@@ -22,7 +22,7 @@ use Rattle.fields.specs.declared.Kind.the-variants.{Mab, Mba}
 use Rattle.clut_meaning.specs.Clut.{is, clutOf}
 use Rattle.clut_meaning.specs.Table.{Table, lengthOf}
 use Rattle.clut_meaning.specs.Standard.{Taken as ClutTaken, told as tableTold}
-use Rattle.clut_meaning.proofs.Accepted.{accepted as clut-accepted}
+use Rattle.clut_meaning.proofs.Laid.{accepted as clut-accepted}
 use Rattle.clut_meaning.proofs.Conforms.{told-length, written-read as clut-written, read-written as clut-read}
 use Rattle.curve_meaning.specs.Shape.{recordWords}
 use Rattle.curve_meaning.specs.declared.Walk.{Walk}
@@ -44,7 +44,7 @@ use Rattle.lut_meaning.specs.Layout.{toPcs, inputs, outputs, bOffset, ma
 use Rattle.lut_meaning.specs.Lut.{byType, lutOf, leftOf}
 use Rattle.lut_meaning.specs.Parts.{runA, runM, runB, runsJudged, curvesOf, matrixJudged}
 use Rattle.lut_meaning.specs.Standard.{towardsPcs, curvesThere, Counts, matrixTold, biasTold, MatrixTaken, startTold, bytesTold, sizeTold, gridTold, ClutFits, told, recordsWritten, PartsTaken, CurvesTaken, PartsAs, TagAs, PassesBy}
-use Rattle.lut_meaning.proofs.Accepted.{IsValue, Accepted, accepted, mft-value, in-profile, abm-found, mft-found}
+use Rattle.lut_meaning.proofs.Found.{IsValue, Accepted, accepted, mft-value, in-profile, abm-found, mft-found}
 use Rattle.lut_meaning.proofs.Inside.{matrix-inside}
 use Rattle.lut_meaning.proofs.Shared.{a-whole, m-whole, b-whole}
 

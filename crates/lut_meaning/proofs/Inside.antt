@@ -18,7 +18,7 @@ use Rattle.fields.specs.declared.Kind.the-variants.{Mab, Mba}
 use Rattle.fields.proofs.Words.{bytes-part}
 use Rattle.clut_meaning.specs.Clut.{is, clutOf}
 use Rattle.clut_meaning.specs.Table.{Table, lengthOf, inGrid, numberOf}
-use Rattle.clut_meaning.proofs.Accepted.{accepted as laid-out}
+use Rattle.clut_meaning.proofs.Laid.{accepted as laid-out}
 use Rattle.clut_meaning.proofs.Grid.{entry-below}
 use Rattle.clut_meaning.proofs.Inside.{inside}
 use Rattle.curve_meaning.specs.declared.Walk.{Walk}
@@ -32,7 +32,7 @@ use Rattle.lut_meaning.specs.Layout.{recordsNeeded, toPcs, inputs, outpu
 use Rattle.lut_meaning.specs.Lut.{tagOf, lutOf}
 use Rattle.lut_meaning.specs.Parts.{curvesOf, matrixJudged}
 use Rattle.lut_meaning.specs.Judged.{good, bad}
-use Rattle.lut_meaning.proofs.Accepted.{abm-found, mft-found}
+use Rattle.lut_meaning.proofs.Found.{abm-found, mft-found}
 use Rattle.lut_meaning.proofs.Needed.{needed-curves}
 
 each-append : (P : Placed → Type 0) (k m : List Placed) → Each P k → Each P m → Each P (k ++ m)

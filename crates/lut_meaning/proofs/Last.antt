@@ -28,7 +28,7 @@ use Rattle.lut_meaning.specs.Layout.{inputs, outputs, matrixOffset, clut
 use Rattle.lut_meaning.specs.Lut.{tagOf, isAbm, byType, lutOf}
 use Rattle.lut_meaning.specs.Parts.{runsJudged, matrixJudged}
 use Rattle.lut_meaning.specs.declared.Plan.{Plan}
-use Rattle.lut_meaning.proofs.Accepted.{IsValue}
+use Rattle.lut_meaning.proofs.Found.{IsValue}
 
 -- ---- no part is refused with 14
 

@@ -1,5 +1,5 @@
 pub mod Shared
-pub mod Accepted
+pub mod Found
 pub mod Unique
 pub mod Needed
 pub mod Inside

@@ -31,7 +31,7 @@ use Rattle.lut_meaning.specs.Lut.{tagOf, isAbm, byType, lutOf, leftOf}
 use Rattle.lut_meaning.specs.Parts.{runA, runM, runB, runsJudged, curvesOf, matrixJudged}
 use Rattle.lut_meaning.specs.Judged.{Judged, good, bad, ended, andThen}
 use Rattle.lut_meaning.specs.declared.Plan.{Plan}
-use Rattle.lut_meaning.proofs.Accepted.{IsValue, not-refused, abm-found}
+use Rattle.lut_meaning.proofs.Found.{IsValue, not-refused, abm-found}
 use Rattle.lut_meaning.proofs.Shared.{a-whole, m-whole, b-whole, all-length}
 
 -- the answers that may change: those of one refusal

@@ -22,7 +22,7 @@ use Rattle.mft_meaning.specs.Answer.{Fields, State, value, Answer, field
 use Rattle.mft_meaning.specs.Layout.{isWide, entrySize, tablesStart, entriesAt, inputs, outputs, gridPoints, inputEntries, outputEntries, matrixOf, colourTable, tablesEnd}
 use Rattle.mft_meaning.specs.Mft.{mftOf}
 use Rattle.mft_meaning.specs.Standard.{told, told16, told8, Taken, Begins16, Begins8}
-use Rattle.mft_meaning.proofs.Accepted.{LaidOut, Asked, conforms, accepted}
+use Rattle.mft_meaning.proofs.Laid.{LaidOut, Asked, conforms, accepted}
 
 -- the numbers of a tag, as the reader has them
 record Seen (t : List ℕ) (size start n m : ℕ) (l : Lut) : Type 0 where

@@ -17,7 +17,7 @@ use Rattle.clut_meaning.proofs.Grid.{entry-below, power-is}
 use Rattle.mft_meaning.specs.Answer.{Fields, value, fieldsOf, toldTable}
 use Rattle.mft_meaning.specs.Layout.{isWide, inputs, outputs, gridPoints, entrySize, colourTable}
 use Rattle.mft_meaning.specs.Mft.{mftOf}
-use Rattle.mft_meaning.proofs.Accepted.{accepted, start-least}
+use Rattle.mft_meaning.proofs.Laid.{accepted, start-least}
 
 -- the type tells the bytes of an entry
 type-told : (t : List ℕ) → (u32At t 0 ≡ signatureOf Mft1) ⊎ (u32At t 0 ≡ signatureOf Mft2) → ((u32At t 0 ≡ signatureOf Mft1) × (entrySize t ≡ 1)) ⊎ ((u32At t 0 ≡ signatureOf Mft2) × (entrySize t ≡ 2))

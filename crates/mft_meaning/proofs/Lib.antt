@@ -1,5 +1,5 @@
 pub mod Unique
-pub mod Accepted
+pub mod Laid
 pub mod Inside
 pub mod More
 pub mod Cases

@@ -16,16 +16,16 @@ use Rattle.fields.specs.Bytes.{bytesAt}
 use Rattle.fields.proofs.Words.{bytes-part}
 use Rattle.clut_meaning.specs.Clut.{is, clutOf}
 use Rattle.clut_meaning.specs.Table.{Table, lengthOf, inGrid, pointOf, numberOf}
-use Rattle.clut_meaning.proofs.Accepted.{Accepted, accepted}
+use Rattle.clut_meaning.proofs.Laid.{Accepted, accepted}
 use Rattle.curve_meaning.specs.declared.Walk.{Walk}
 use Rattle.mft_meaning.specs.Answer.{Fields, fieldsOf, toldTable as Mft·toldTable}
 use Rattle.mft_meaning.specs.Layout.{isWide, entrySize}
-use Rattle.mft_meaning.proofs.Accepted.{accepted as Mft·accepted}
+use Rattle.mft_meaning.proofs.Laid.{accepted as Mft·accepted}
 use Rattle.lut_meaning.specs.Abm.{noTable, tableOf, valueFrom, toldTable}
 use Rattle.lut_meaning.specs.Answer.{Abm, State, Answer, mft, abm, absent as State·absent, refused}
 use Rattle.lut_meaning.specs.Layout.{inputs, outputs, clutOffset, gridOf}
 use Rattle.lut_meaning.specs.Lut.{tagOf, lutOf}
-use Rattle.lut_meaning.proofs.Accepted.{abm-found, mft-found}
+use Rattle.lut_meaning.proofs.Found.{abm-found, mft-found}
 use Rattle.lut_meaning.proofs.Inside.{lut-inside, mft-inside}
 use Rattle.table_meaning.specs.Answer.{value, absent}
 use Rattle.table_meaning.specs.View.{gridFrom, tableBy, numbersOf, storedAt, entryFrom, entryOf}
