@@ -15,7 +15,7 @@ use Rattle.small_meaning.specs.Answer.{Answer, value}
 use Rattle.small_meaning.specs.Layout.{nineNumbers, signatureIn, dateBytes, measurement, conditions, firstXyz, codePoints}
 use Rattle.small_meaning.specs.Order.{foundOf, answerTo}
 use Rattle.small_meaning.specs.Small.{chadOf, sigOf, dateOf, windowOf, measOf, viewOf, tripleOf, xyzOf, cicpOf}
-use Rattle.small_meaning.proofs.Met.{chad-behind, window-behind, triple-behind}
+use Rattle.small_meaning.proofs.Laid.{chad-behind, window-behind, triple-behind}
 use Rattle.small_meaning.proofs.Order.{Silent, no-absence, no-default, no-refusal, met, reaches}
 
 -- what the first `end` bytes tell, whatever stands behind them

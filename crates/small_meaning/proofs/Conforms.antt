@@ -31,7 +31,7 @@ use Rattle.small_meaning.specs.declared.SigAnswer.{SigAnswer}
 use Rattle.small_meaning.specs.declared.ViewAnswer.{ViewAnswer}
 use Rattle.small_meaning.specs.declared.XyzAnswer.{XyzAnswer}
 use Rattle.small_meaning.specs.declared.XyzNumber.{XyzNumber}
-use Rattle.small_meaning.proofs.Met.{fields-are, Nine, chad-behind, window-behind, triple-behind}
+use Rattle.small_meaning.proofs.Laid.{fields-are, Nine, chad-behind, window-behind, triple-behind}
 use Rattle.small_meaning.proofs.Order.{Silent, met, reaches, no-absence, no-default, no-refusal}
 
 -- bytes 4 to 7

@@ -12,7 +12,7 @@ use Rattle.small_meaning.specs.Answer.{Answer, value}
 use Rattle.small_meaning.specs.Layout.{dateBytes, measurement}
 use Rattle.small_meaning.specs.Order.{foundOf, answerTo}
 use Rattle.small_meaning.specs.Small.{chadOf, sigOf, dateOf, windowOf, measOf, viewOf, xyzOf, cicpOf}
-use Rattle.small_meaning.proofs.Met.{chad-behind, window-behind, triple-behind}
+use Rattle.small_meaning.proofs.Laid.{chad-behind, window-behind, triple-behind}
 use Rattle.small_meaning.proofs.Order.{no-absence, no-default, no-refusal, Met, met}
 
 -- the tag's bytes before `end`, in which all fields stand, are bytes of the tag, and of the profile

@@ -3,7 +3,7 @@ pub mod Unique
 pub mod More
 pub mod Last
 pub mod Alone
-pub mod Met
+pub mod Laid
 pub mod Inside
 pub mod Conforms
 pub mod Cases
