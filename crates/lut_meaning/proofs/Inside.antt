@@ -15,6 +15,7 @@ use Rattle.fields.specs.Place.{countedSize}
 use Rattle.fields.specs.Bytes.{u32At, bytesAt, wordsAt}
 use Rattle.fields.specs.Tag.{signatureOf}
 use Rattle.fields.specs.declared.Kind.the-variants.{Mab, Mba}
+use Rattle.fields.proofs.Choice.{each}
 use Rattle.fields.proofs.Words.{bytes-part}
 use Rattle.clut_meaning.specs.Clut.{is, clutOf}
 use Rattle.clut_meaning.specs.Table.{Table, lengthOf, inGrid, numberOf}
@@ -31,7 +32,7 @@ use Rattle.lut_meaning.specs.Answer.{Abm, mft, abm, Answer}
 use Rattle.lut_meaning.specs.Layout.{recordsNeeded, toPcs, inputs, outputs, matrixOffset, clutOffset, aOffset, mOffset, bOffset, aCurves, mCurves, bCurves, planOf, identity, matrixOf, biasOf, gridOf}
 use Rattle.lut_meaning.specs.Lut.{tagOf, lutOf}
 use Rattle.lut_meaning.specs.Parts.{curvesOf, matrixJudged}
-use Rattle.lut_meaning.specs.Judged.{good, bad}
+use Rattle.lut_meaning.specs.Judged.{Judged, good}
 use Rattle.lut_meaning.proofs.Accepted.{abm-found, mft-found}
 use Rattle.lut_meaning.proofs.Needed.{needed-curves}
 
@@ -49,12 +50,11 @@ curves-inside walk limit t =
 -- a matrix that is good is not there, or lies in the tag
 pub matrix-inside : (t : List ℕ) → matrixJudged t ≡ good → (matrixOffset t ≡ 0) ⊎ (matrixOffset t + 48 ≤ length t)
 unfolding matrixJudged
-matrix-inside t = by (eqb (matrixOffset t) 0) refl (ltb (length t) (matrixOffset t + 48)) refl
-  where
-    by : (b : Bool) → eqb (matrixOffset t) 0 ≡ b → (c : Bool) → ltb (length t) (matrixOffset t + 48) ≡ c → cond b good (cond c (bad 2) good) ≡ good → (matrixOffset t ≡ 0) ⊎ (matrixOffset t + 48 ≤ length t)
-    by true e c f h = inl (eqb-true (matrixOffset t) 0 e)
-    by false e true f h = let z : _≡_ {A = ℕ} 0 1 = cc in absurd (omega arith)
-    by false e false f h = inr (ltb-false (length t) (matrixOffset t + 48) f)
+matrix-inside t =
+    let P : Judged → Type 0 = λ j. j ≡ good → (matrixOffset t ≡ 0) ⊎ (matrixOffset t + 48 ≤ length t) in
+    each P (eqb (matrixOffset t) 0) _ _ (λ e h. inl (eqb-true (matrixOffset t) 0 e))
+    (λ _. each P (ltb (length t) (matrixOffset t + 48)) _ _ (λ _ h. let z : _≡_ {A = ℕ} 0 1 = cc in absurd (omega arith))
+    (λ f h. inr (ltb-false (length t) (matrixOffset t + 48) f)))
 
 -- a matrix and a bias that are answered: none, or those that stand there
 abbrev pub MatrixTold : List ℕ → List ℕ → List ℕ → Type 0
