@@ -99,11 +99,15 @@ pub grid-told : (t : List ℕ) (table : Table) → tableOf t ≡ is table → Gr
 unfolding tableOf gridOf
 grid-told t table = by (eqb (clutOffset t) 0) refl
   where
-    by : (b : Bool) → eqb (clutOffset t) 0 ≡ b → cond b (is noTable) (clutOf t (clutOffset t) (inputs t) (outputs t)) ≡ is table → GridTold t table (cond b (replicate 16 0) (bytesAt t (clutOffset t) 16))
-    by true e h = let same : table ≡ noTable = cc in inl (eqb-true (clutOffset t) 0 e, same, refl)
+    by : (b : Bool) → eqb (clutOffset t) 0 ≡ b → tableOf t ≡ is table → GridTold t table (gridOf t)
+    by true e h =
+        let none : is noTable ≡ is table = rw e at h in
+        let same : table ≡ noTable = cc in
+        rw e (inl (eqb-true (clutOffset t) 0 e, same, refl))
     by false e h =
-        let a = laid-out t (clutOffset t) (inputs t) (outputs t) table h .laid in
-        inr (eqb-false (clutOffset t) 0 e, a .start-is, a .size-is, bytes-part t (clutOffset t) 16 (grid-inside t table h))
+        let there : clutOf t (clutOffset t) (inputs t) (outputs t) ≡ is table = rw e at h in
+        let a = laid-out t (clutOffset t) (inputs t) (outputs t) table there .laid in
+        rw e (inr (eqb-false (clutOffset t) 0 e, a .start-is, a .size-is, bytes-part t _ _ (grid-inside t table there)))
 
 -- a table that is there has the grid and the output channels that are answered
 table-told : (t : List ℕ) (table : Table) → tableOf t ≡ is table → 1 ≤ table .size → (take (min (inputs t) 16) (gridOf t) ≡ table .grid) × (outputs t ≡ table .outputs)
