@@ -23,22 +23,22 @@ Not14 x = x ≡ no 14 → ⊥
 seen : (s : Shape) → Not14 (is s)
 seen s e = let z : _≡_ {A = ℕ} 0 1 = cc in omega arith
 
-other : (n : ℕ) → (n ≡ 14 → ⊥) → Not14 (no n)
+pub other : (n : ℕ) → (n ≡ 14 → ⊥) → Not14 (no n)
 other n h e = h cc
 
 pub curve-not-14 : (limit : ℕ) (t : List ℕ) → Not14 (curveOf limit t)
 unfolding curveOf tableOf paraOf
 curve-not-14 limit t =
-    each Not14 (ltb (length t) 12) _ _ (λ _. other 11 (λ z. omega arith))
+    each Not14 (ltb (length t) 12) _ _ (λ _. other _ (λ z. omega arith))
     (λ _. each Not14 (eqb (u32At t 0) (signatureOf Curv)) _ _
     (λ _. each Not14 (eqb (entryCount t) 0) _ _ (λ _. seen _)
-    (λ _. each Not14 (ltb limit (entryCount t)) _ _ (λ _. other 10 (λ z. omega arith))
-    (λ _. each Not14 (ltb (length t) (entriesEnd (entryCount t))) _ _ (λ _. other 11 (λ z. omega arith)) (λ _. seen _))))
+    (λ _. each Not14 (ltb limit (entryCount t)) _ _ (λ _. other _ (λ z. omega arith))
+    (λ _. each Not14 (ltb (length t) (entriesEnd (entryCount t))) _ _ (λ _. other _ (λ z. omega arith)) (λ _. seen _))))
     (λ _. each Not14 (eqb (u32At t 0) (signatureOf Para)) _ _
-    (λ _. each Not14 (ltb 4 (functionType t)) _ _ (λ _. other 12 (λ z. omega arith))
-    (λ _. each Not14 (ltb (length t) (parametersEnd (parameterCount (functionType t)))) _ _ (λ _. other 11 (λ z. omega arith))
-    (λ _. each Not14 (divides (functionType t) && eqb (getD (parameters t) 1 0) 0) _ _ (λ _. other 13 (λ z. omega arith)) (λ _. seen _))))
-    (λ _. other 9 (λ z. omega arith))))
+    (λ _. each Not14 (ltb 4 (functionType t)) _ _ (λ _. other _ (λ z. omega arith))
+    (λ _. each Not14 (ltb (length t) (parametersEnd (parameterCount (functionType t)))) _ _ (λ _. other _ (λ z. omega arith))
+    (λ _. each Not14 (divides (functionType t) && eqb (getD (parameters t) 1 0) 0) _ _ (λ _. other _ (λ z. omega arith)) (λ _. seen _))))
+    (λ _. other _ (λ z. omega arith))))
 
 answer-not-14 : (walk : Walk) (start : ℕ) (x : Seen) → Not14 x → answerOf walk start x ≡ refused 14 → ⊥
 unfolding answerOf
@@ -50,7 +50,8 @@ unfolding trcOf
 trc-not-14 walk limit p entry size =
     let P : Answer → Type 0 = λ a. a ≡ refused 14 → ⊥ in
     let none : P absent = λ h. let z : _≡_ {A = ℕ} 0 1 = cc in omega arith in
+    let no-other : (n : ℕ) → (n ≡ 14 → ⊥) → P (refused n) = λ n f h. f cc in
     each P (ltb (length p) (entry + 4)) _ _ (λ _. none)
     (λ _. each P (leb 1 size && ltb size 12) _ _ (λ _. none)
-    (λ _. each P (ltb (length p) (entry + size)) _ _ (λ _ h. let z : _≡_ {A = ℕ} 11 14 = cc in omega arith)
+    (λ _. each P (ltb (length p) (entry + size)) _ _ (λ _. no-other _ (λ z. omega arith))
     (λ _. answer-not-14 walk 12 _ (curve-not-14 limit (tagOf p entry size)))))

@@ -15,6 +15,7 @@ use Rattle.fields.specs.Place.{countedSize}
 use Rattle.fields.specs.Bytes.{u32At, bytesAt, wordsAt}
 use Rattle.fields.specs.Tag.{signatureOf}
 use Rattle.fields.specs.declared.Kind.the-variants.{Mab, Mba}
+use Rattle.fields.proofs.Choice.{each}
 use Rattle.fields.proofs.Words.{bytes-part}
 use Rattle.clut_meaning.specs.Clut.{is, clutOf}
 use Rattle.clut_meaning.specs.Table.{Table, lengthOf, inGrid, numberOf}
@@ -31,7 +32,7 @@ use Rattle.lut_meaning.specs.Answer.{Abm, mft, abm, Answer}
 use Rattle.lut_meaning.specs.Layout.{recordsNeeded, toPcs, inputs, outputs, matrixOffset, clutOffset, aOffset, mOffset, bOffset, aCurves, mCurves, bCurves, planOf, identity, matrixOf, biasOf, gridOf}
 use Rattle.lut_meaning.specs.Lut.{tagOf, lutOf}
 use Rattle.lut_meaning.specs.Parts.{curvesOf, matrixJudged}
-use Rattle.lut_meaning.specs.Judged.{good, bad}
+use Rattle.lut_meaning.specs.Judged.{Judged, good}
 use Rattle.lut_meaning.proofs.Found.{abm-found, mft-found}
 use Rattle.lut_meaning.proofs.Needed.{needed-curves}
 
@@ -49,12 +50,11 @@ curves-inside walk limit t =
 -- a matrix that is good is not there, or lies in the tag
 pub matrix-inside : (t : List ℕ) → matrixJudged t ≡ good → (matrixOffset t ≡ 0) ⊎ (matrixOffset t + 48 ≤ length t)
 unfolding matrixJudged
-matrix-inside t = by (eqb (matrixOffset t) 0) refl (ltb (length t) (matrixOffset t + 48)) refl
-  where
-    by : (b : Bool) → eqb (matrixOffset t) 0 ≡ b → (c : Bool) → ltb (length t) (matrixOffset t + 48) ≡ c → cond b good (cond c (bad 2) good) ≡ good → (matrixOffset t ≡ 0) ⊎ (matrixOffset t + 48 ≤ length t)
-    by true e c f h = inl (eqb-true (matrixOffset t) 0 e)
-    by false e true f h = let z : _≡_ {A = ℕ} 0 1 = cc in absurd (omega arith)
-    by false e false f h = inr (ltb-false (length t) (matrixOffset t + 48) f)
+matrix-inside t =
+    let P : Judged → Type 0 = λ j. j ≡ good → (matrixOffset t ≡ 0) ⊎ (matrixOffset t + 48 ≤ length t) in
+    each P (eqb (matrixOffset t) 0) _ _ (λ e h. inl (eqb-true (matrixOffset t) 0 e))
+    (λ _. each P (ltb (length t) (matrixOffset t + 48)) _ _ (λ _ h. let z : _≡_ {A = ℕ} 0 1 = cc in absurd (omega arith))
+    (λ f h. inr (ltb-false (length t) (matrixOffset t + 48) f)))
 
 -- a matrix and a bias that are answered: none, or those that stand there
 abbrev pub MatrixTold : List ℕ → List ℕ → List ℕ → Type 0
@@ -99,11 +99,15 @@ pub grid-told : (t : List ℕ) (table : Table) → tableOf t ≡ is table → Gr
 unfolding tableOf gridOf
 grid-told t table = by (eqb (clutOffset t) 0) refl
   where
-    by : (b : Bool) → eqb (clutOffset t) 0 ≡ b → cond b (is noTable) (clutOf t (clutOffset t) (inputs t) (outputs t)) ≡ is table → GridTold t table (cond b (replicate 16 0) (bytesAt t (clutOffset t) 16))
-    by true e h = let same : table ≡ noTable = cc in inl (eqb-true (clutOffset t) 0 e, same, refl)
+    by : (b : Bool) → eqb (clutOffset t) 0 ≡ b → tableOf t ≡ is table → GridTold t table (gridOf t)
+    by true e h =
+        let none : is noTable ≡ is table = rw e at h in
+        let same : table ≡ noTable = cc in
+        rw e (inl (eqb-true (clutOffset t) 0 e, same, refl))
     by false e h =
-        let a = laid-out t (clutOffset t) (inputs t) (outputs t) table h .laid in
-        inr (eqb-false (clutOffset t) 0 e, a .start-is, a .size-is, bytes-part t (clutOffset t) 16 (grid-inside t table h))
+        let there : clutOf t (clutOffset t) (inputs t) (outputs t) ≡ is table = rw e at h in
+        let a = laid-out t (clutOffset t) (inputs t) (outputs t) table there .laid in
+        rw e (inr (eqb-false (clutOffset t) 0 e, a .start-is, a .size-is, bytes-part t _ _ (grid-inside t table there)))
 
 -- a table that is there has the grid and the output channels that are answered
 table-told : (t : List ℕ) (table : Table) → tableOf t ≡ is table → 1 ≤ table .size → (take (min (inputs t) 16) (gridOf t) ≡ table .grid) × (outputs t ≡ table .outputs)

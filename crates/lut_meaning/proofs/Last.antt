@@ -15,7 +15,7 @@ use Rattle.clut_meaning.specs.Clut.{Seen as Clut·Seen, is, no, tableAt, gridAt
 use Rattle.clut_meaning.specs.Table.{Table, entriesOf, lengthOf, lastOf, pointsOf}
 use Rattle.curve_meaning.specs.Shape.{Seen as Curve·Seen, recordWords}
 use Rattle.curve_meaning.specs.declared.Walk.{Walk}
-use Rattle.curve_meaning.proofs.Last.{Not14, curve-not-14}
+use Rattle.curve_meaning.proofs.Last.{Not14, other, curve-not-14}
 use Rattle.mft_meaning.specs.Answer.{State as Mft·State, answerOf}
 use Rattle.mft_meaning.specs.Layout.{isMft, tablesStart, tablesEnd, colourTable}
 use Rattle.mft_meaning.specs.Mft.{badNumbers, tablesOf, numbersOf, mftOf}
@@ -35,7 +35,7 @@ use Rattle.lut_meaning.proofs.Found.{IsValue}
 entry-not-14 : (limit : ℕ) (t : List ℕ) (at : ℕ) → Not14 (entryAt limit t at)
 unfolding entryAt
 entry-not-14 limit t at =
-    each Not14 (ltb (length t) (at + 12)) _ _ (λ _ h. let z : _≡_ {A = ℕ} 2 14 = cc in omega arith) (λ _. curve-not-14 limit (drop at t))
+    each Not14 (ltb (length t) (at + 12)) _ _ (λ _. other _ (λ z. omega arith)) (λ _. curve-not-14 limit (drop at t))
 
 run-not-14 : (walk : Walk) (limit : ℕ) (t : List ℕ) (at n : ℕ) → ended (runAt walk limit t at n .end) ≡ bad 14 → ⊥
 unfolding ended
@@ -59,8 +59,9 @@ unfolding matrixJudged
 matrix-not-14 t =
     let P : Judged → Type 0 = λ j. j ≡ bad 14 → ⊥ in
     let well : P good = λ h. let z : _≡_ {A = ℕ} 0 1 = cc in omega arith in
+    let refused-so : (n : ℕ) → (n ≡ 14 → ⊥) → P (bad n) = λ n f h. f cc in
     each P (eqb (matrixOffset t) 0) _ _ (λ _. well)
-    (λ _. each P (ltb (length t) (matrixOffset t + 48)) _ _ (λ _ h. let z : _≡_ {A = ℕ} 2 14 = cc in omega arith) (λ _. well))
+    (λ _. each P (ltb (length t) (matrixOffset t + 48)) _ _ (λ _. refused-so _ (λ z. omega arith)) (λ _. well))
 
 table-not-14 : (t : List ℕ) → tableOf t ≡ no 14 → ⊥
 unfolding tableOf clutOf shapeOf
@@ -70,26 +71,26 @@ table-not-14 t =
     let refused-so : (n : ℕ) → (n ≡ 14 → ⊥) → P (no n) = λ n f h. f cc in
     let u : Table = tableAt t (clutOffset t) (gridAt t (clutOffset t) (inputs t)) (outputs t) in
     each P (eqb (clutOffset t) 0) _ _ (λ _. there noTable)
-    (λ _. each P (ltb (length t) (u .start)) _ _ (λ _. refused-so 2 (λ z. omega arith))
-    (λ _. each P (overflows (u .grid) (outputs t)) _ _ (λ _. refused-so 4 (λ z. omega arith))
-    (λ _. each P (eqb (entriesOf u) 0) _ _ (λ _. refused-so 5 (λ z. omega arith))
-    (λ _. each P (ltb mostEntries (entriesOf u)) _ _ (λ _. refused-so 6 (λ z. omega arith))
-    (λ _. each P (some isFlat (u .grid)) _ _ (λ _. refused-so 7 (λ z. omega arith))
-    (λ _. each P (leb (entriesOf u) (lastOf (u .grid) * u .outputs)) _ _ (λ _. refused-so 18 (λ z. omega arith))
-    (λ _. each P (ltb (u .size) 1 || ltb 2 (u .size)) _ _ (λ _. refused-so 8 (λ z. omega arith))
-    (λ _. each P (ltb (length t) (u .start + lengthOf u)) _ _ (λ _. refused-so 2 (λ z. omega arith)) (λ _. there u)))))))))
+    (λ _. each P (ltb (length t) (u .start)) _ _ (λ _. refused-so _ (λ z. omega arith))
+    (λ _. each P (overflows (u .grid) (outputs t)) _ _ (λ _. refused-so _ (λ z. omega arith))
+    (λ _. each P (eqb (entriesOf u) 0) _ _ (λ _. refused-so _ (λ z. omega arith))
+    (λ _. each P (ltb mostEntries (entriesOf u)) _ _ (λ _. refused-so _ (λ z. omega arith))
+    (λ _. each P (some isFlat (u .grid)) _ _ (λ _. refused-so _ (λ z. omega arith))
+    (λ _. each P (leb (entriesOf u) (lastOf (u .grid) * u .outputs)) _ _ (λ _. refused-so _ (λ z. omega arith))
+    (λ _. each P (ltb (u .size) 1 || ltb 2 (u .size)) _ _ (λ _. refused-so _ (λ z. omega arith))
+    (λ _. each P (ltb (length t) (u .start + lengthOf u)) _ _ (λ _. refused-so _ (λ z. omega arith)) (λ _. there u)))))))))
 
 mft-not-14 : (points : ℕ) (t : List ℕ) → fromMft (answerOf t (mftOf points t)) .state ≡ refused 14 → ⊥
 unfolding mftOf numbersOf tablesOf answerOf
 mft-not-14 points t =
     let P : Mft·State → Type 0 = λ x. fromMft (answerOf t x) .state ≡ refused 14 → ⊥ in
     let refused-so : (n : ℕ) → (n ≡ 14 → ⊥) → P (Mft·State.refused n) = λ n f h. f cc in
-    each P (ltb (length t) 48) _ _ (λ _. refused-so 2 (λ z. omega arith))
-    (λ _. each P (not (isMft t)) _ _ (λ _. refused-so 3 (λ z. omega arith))
-    (λ _. each P (ltb (length t) (tablesStart t)) _ _ (λ _. refused-so 2 (λ z. omega arith))
-    (λ _. each P (badNumbers t) _ _ (λ _. refused-so 15 (λ z. omega arith))
-    (λ _. each P (ltb points (pointsOf (colourTable t))) _ _ (λ _. refused-so 16 (λ z. omega arith))
-    (λ _. each P (ltb (length t) (tablesEnd t)) _ _ (λ _. refused-so 2 (λ z. omega arith)) (λ _ h. let z : _≡_ {A = ℕ} 0 1 = cc in omega arith))))))
+    each P (ltb (length t) 48) _ _ (λ _. refused-so _ (λ z. omega arith))
+    (λ _. each P (not (isMft t)) _ _ (λ _. refused-so _ (λ z. omega arith))
+    (λ _. each P (ltb (length t) (tablesStart t)) _ _ (λ _. refused-so _ (λ z. omega arith))
+    (λ _. each P (badNumbers t) _ _ (λ _. refused-so _ (λ z. omega arith))
+    (λ _. each P (ltb points (pointsOf (colourTable t))) _ _ (λ _. refused-so _ (λ z. omega arith))
+    (λ _. each P (ltb (length t) (tablesEnd t)) _ _ (λ _. refused-so _ (λ z. omega arith)) (λ _ h. let z : _≡_ {A = ℕ} 0 1 = cc in omega arith))))))
 
 -- ---- what stands behind it
 
@@ -138,13 +139,13 @@ module _ (walk : Walk) (limit points : ℕ) (p : List ℕ) (entry size words : �
   pub fourteen-behind : Behind (lutOf walk limit points p entry size words)
   unfolding lutOf byType abmOf
   fourteen-behind =
-      each Behind (ltb (length p) (entry + countedSize size)) _ _ (λ _. not-so 1 _ refl (λ z. omega arith))
-      (λ fits. each Behind (ltb (countedSize size) 48) _ _ (λ _. not-so 2 _ refl (λ z. omega arith))
+      each Behind (ltb (length p) (entry + countedSize size)) _ _ (λ _. not-so _ _ refl (λ z. omega arith))
+      (λ fits. each Behind (ltb (countedSize size) 48) _ _ (λ _. not-so _ _ refl (λ z. omega arith))
       (λ long. each Behind (isMft t) _ _ (λ _ h. absurd (mft-not-14 points t h))
       (λ not-mft. each Behind (isAbm t) _ _
       (λ type-is. each Behind (ltb 4 (inputs t) && ltb 4 (outputs t)) _ _ (λ _ h. let z : _≡_ {A = ℕ} 0 1 = cc in absurd (omega arith))
       (λ few-channels. by-matrix (ltb-false _ _ fits) (ltb-false _ _ long) not-mft type-is few-channels (matrixJudged t) refl))
-      (λ _. not-so 3 _ refl (λ z. omega arith)))))
+      (λ _. not-so _ _ refl (λ z. omega arith)))))
 
   -- with slots for all records everything stays, and the answer is a value
   pub enough : Short → (many : ℕ) → recordsNeeded t ≤ many / recordWords → IsValue (lutOf walk limit points p entry size many .state)

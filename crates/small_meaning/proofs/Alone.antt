@@ -25,7 +25,7 @@ Told end tells = (t q : List ℕ) → end ≤ length t → tells (t ++ q) ≡ te
 -- so the fields of t are those of its first bytes, by `front`
 pub nine-told : Told 44 nineNumbers
 unfolding nineNumbers
-nine-told t q h = words-append t q 8 9 h
+nine-told t q h = words-append t q _ _ (omega arith)
 
 pub signature-told : Told 12 signatureIn
 unfolding signatureIn
@@ -33,23 +33,23 @@ signature-told t q h = rw (u32-append t q 8 h)
 
 pub date-told : Told 20 dateBytes
 unfolding dateBytes
-date-told t q h = bytes-append t q 8 12 h
+date-told t q h = bytes-append t q _ _ (omega arith)
 
 pub measurement-told : Told 36 measurement
 unfolding measurement
-measurement-told t q h = words-append t q 8 7 h
+measurement-told t q h = words-append t q _ _ (omega arith)
 
 pub conditions-told : Told 36 conditions
 unfolding conditions
-conditions-told t q h = words-append t q 8 7 h
+conditions-told t q h = words-append t q _ _ (omega arith)
 
 pub xyz-told : Told 20 firstXyz
 unfolding firstXyz
-xyz-told t q h = words-append t q 8 3 h
+xyz-told t q h = words-append t q _ _ (omega arith)
 
 pub codes-told : Told 12 codePoints
 unfolding codePoints
-codes-told t q h = bytes-append t q 8 4 h
+codes-told t q h = bytes-append t q _ _ (omega arith)
 
 type-told : Told 4 (λ t. u32At t 0)
 type-told t q h = u32-append t q 0 h

@@ -28,20 +28,14 @@ none h = let z : _≡_ {A = ℕ} 0 1 = cc in omega arith
 standard : Not14 default
 standard h = let z : _≡_ {A = ℕ} 0 1 = cc in omega arith
 
-past : Not14 (refused 1)
-past h = let z : _≡_ {A = ℕ} 1 14 = cc in omega arith
-
-short : Not14 (refused 2)
-short h = let z : _≡_ {A = ℕ} 2 14 = cc in omega arith
-
-bad : Not14 (refused 17)
-bad h = let z : _≡_ {A = ℕ} 17 14 = cc in omega arith
+other : (n : ℕ) → (n ≡ 14 → ⊥) → Not14 (refused n)
+other n f h = f cc
 
 -- the order that the readers share
 ordered : (f : Found) {a b c : Answer} → Not14 a → Not14 b → Not14 c → Not14 (answerTo f a b c)
 unfolding answerTo
 ordered Found.Short x y z = x
-ordered Found.Past x y z = past
+ordered Found.Past x y z = other _ (λ e. omega arith)
 ordered Found.Other x y z = y
 ordered (Found.Tag from to) x y z = z
 
@@ -49,30 +43,30 @@ module _ (p : List ℕ) (entry size : ℕ) where
   pub chad-not-14 : Not14 (chadOf p entry size)
   unfolding chadOf matrixOf
   chad-not-14 =
-      each Not14 (ltb (length p) (entry + size)) _ _ (λ _. past)
-      (λ _. each Not14 (ltb (length p) (entry + 8)) _ _ (λ _. past)
+      each Not14 (ltb (length p) (entry + size)) _ _ (λ _. other _ (λ e. omega arith))
+      (λ _. each Not14 (ltb (length p) (entry + 8)) _ _ (λ _. other _ (λ e. omega arith))
       (λ _. each Not14 (ltb size 8) _ _ (λ _. none)
       (λ _. each Not14 (eqb ((size - 8) / 4) 9) _ _
       (λ _. each Not14 (eqb (u32At (tagAt p entry size) 0) (signatureOf Sf32)) _ _
-      (λ _. each Not14 (eqb (length (tagAt p entry size)) 44) _ _ (λ _. valued) (λ _. bad)) (λ _. bad))
+      (λ _. each Not14 (eqb (length (tagAt p entry size)) 44) _ _ (λ _. valued) (λ _. other _ (λ e. omega arith))) (λ _. other _ (λ e. omega arith)))
       (λ _. none))))
 
   pub sig-not-14 : Not14 (sigOf p entry size)
-  sig-not-14 = ordered _ short none valued
+  sig-not-14 = ordered _ (other _ (λ e. omega arith)) none valued
 
   pub date-not-14 : Not14 (dateOf p entry size)
   date-not-14 = ordered _ none none valued
 
   pub meas-not-14 : Not14 (measOf p entry size)
   unfolding windowOf
-  meas-not-14 = ordered _ none none (each Not14 (ltb (length p) (entry + 36)) _ _ (λ _. past) (λ _. valued))
+  meas-not-14 = ordered _ none none (each Not14 (ltb (length p) (entry + 36)) _ _ (λ _. other _ (λ e. omega arith)) (λ _. valued))
 
   pub view-not-14 : Not14 (viewOf p entry size)
   view-not-14 = ordered _ none none valued
 
   pub xyz-not-14 : Not14 (xyzOf p entry size)
   unfolding tripleOf
-  xyz-not-14 = ordered _ standard standard (each Not14 (ltb (length (tagAt p entry size)) 20) _ _ (λ _. short) (λ _. valued))
+  xyz-not-14 = ordered _ standard standard (each Not14 (ltb (length (tagAt p entry size)) 20) _ _ (λ _. other _ (λ e. omega arith)) (λ _. valued))
 
   pub cicp-not-14 : Not14 (cicpOf p entry size)
   cicp-not-14 = ordered _ none none valued

@@ -46,21 +46,21 @@ module _ (p : List ℕ) (entry size words : ℕ) where
       each Behind (ltb (words / recordWords) (recordsAsked t)) _ _
       (λ l h. record { tag-in-profile = fits; long = long; type-is = i; all-read = e; few = ltb-true _ _ l })
       (λ _ h. let z : _≡_ {A = ℕ} 0 1 = cc in absurd (omega arith))
-  by-end fits long i (stopped header) e = no-other 2 (λ z. omega arith)
+  by-end fits long i (stopped header) e = no-other _ (λ z. omega arith)
   by-end fits long i (stopped string) e = no-absence
 
   pub fourteen-behind : Behind (stringOf p entry size words)
   unfolding stringOf byType textOf mlucOf descOf
   fourteen-behind =
       each Behind (ltb (countedSize size) 4) _ _ (λ _. no-absence)
-      (λ _. each Behind (ltb (length p) (entry + countedSize size)) _ _ (λ _. no-other 1 (λ z. omega arith))
+      (λ _. each Behind (ltb (length p) (entry + countedSize size)) _ _ (λ _. no-other _ (λ z. omega arith))
       (λ fits. each Behind (ltb (countedSize size) 8) _ _ (λ _. no-absence)
       (λ long. each Behind (eqb (u32At t 0) (signatureOf Text)) _ _ (λ _ h. let z : _≡_ {A = ℕ} 0 1 = cc in absurd (omega arith))
       (λ _. each Behind (eqb (u32At t 0) (signatureOf Mluc)) _ _
       (λ i. by-end (ltb-false _ _ fits) (ltb-false _ _ long) (eqb-true _ _ i) (recordsIn t .end) refl)
       (λ _. each Behind (eqb (u32At t 0) (signatureOf Desc)) _ _
-      (λ _. each Behind (ltb (length t) 12) _ _ (λ _. no-other 2 (λ z. omega arith))
-      (λ _. each Behind (ltb (length t) (asciiEnd t)) _ _ (λ _. no-other 2 (λ z. omega arith)) (λ _ h. let z : _≡_ {A = ℕ} 0 1 = cc in absurd (omega arith))))
+      (λ _. each Behind (ltb (length t) 12) _ _ (λ _. no-other _ (λ z. omega arith))
+      (λ _. each Behind (ltb (length t) (asciiEnd t)) _ _ (λ _. no-other _ (λ z. omega arith)) (λ _ h. let z : _≡_ {A = ℕ} 0 1 = cc in absurd (omega arith))))
       (λ _. no-absence))))))
 
   -- with slots for all records everything stays, and they are answered
