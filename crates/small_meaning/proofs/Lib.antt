@@ -2,9 +2,9 @@ pub mod Order
 pub mod Unique
 pub mod More
 pub mod Last
-pub mod Alone
 pub mod Accepted
 pub mod Inside
 pub mod Conforms
 pub mod Cases
 pub mod Written
+pub mod Zone
