@@ -24,7 +24,7 @@ use Rattle.text_meaning.specs.Mluc.{even, recordsIn, wordsIn}
 use Rattle.text_meaning.proofs.Found.{Value}
 use Rattle.text_meaning.proofs.Inside.{ReadAt, ValueInside, value-inside}
 use Rattle.small_meaning.specs.Answer.{Answer as Small·Answer}
-use Rattle.small_meaning.proofs.Alone.{chad-alone, sig-alone, view-alone, xyz-alone, cicp-alone, meas-alone, date-alone}
+use Rattle.small_meaning.proofs.Zone.{chad-alone, sig-alone, view-alone, xyz-alone, cicp-alone, meas-alone, date-alone}
 use Rattle.small_meaning.proofs.Inside.{chad-inside, sig-inside, view-inside, xyz-inside, cicp-inside, meas-inside, date-inside}
 use Rattle.demands.specs.Readers.{Small, chad, sig, date, meas, view, xyz, cicp, lut, trc, string, small, Call, smallOf, meaning, left, value, smallOutcome, Library, ends, Promised, says}
 use Rattle.demands.specs.Demands.{tag, curveTag, curveAt, recordIn, CurveInside, NoMatrix, MatrixInside, NoGrid, GridInside, AbmInside, MftInside, LocalizedInside, TextInside, FieldsInside, SameFields, onProfile, Demand1}

@@ -2,8 +2,8 @@ pub mod Order
 pub mod Unique
 pub mod More
 pub mod Last
-pub mod Alone
 pub mod Laid
 pub mod Inside
 pub mod Conforms
+pub mod Zone
 pub mod Cases

@@ -1,4 +1,4 @@
--- The fields of a value stand in a few bytes, and nothing else of the profile is told by them: a profile that has the same bytes there, and
+-- The zone of a value is the bytes that its fields stand in. Nothing else of the profile matters: one that has the same bytes there, and
 -- is no shorter, is answered with the same value.
 -- Assumes nothing.
 use Prim.Native.Nat.{ℕ, _+_, _≤_}
