@@ -1,6 +1,6 @@
 -- Conformance to the CLUT element, both ways.
 -- Assumes nothing.
-use Prim.Native.Nat.{ℕ, zero, suc, _+_, _*_, _-_, _≤_, _<_, min}
+use Prim.Native.Nat.{ℕ, zero, suc, _+_, _*_, _-_, _≤_, min}
 use native.Mathlib.Omega.{arith}
 use mathlib.Core.Path.{_≡_, refl, sym, ap, _∙_}
 use mathlib.Core.List.{List, [], _∷_, _++_, append-assoc}
@@ -8,7 +8,7 @@ use lib.ListN.{length, getD, take, drop, length-append, length-drop}
 use lib.Seq.{take-at, getD-at, getD-drop, length-take-le}
 use Rattle.icc.specs.Elements.{Stands, Entries, bytes, words, precision, numbers, EntriesFit, entryBytes, Clut, clutElement, ClutSized}
 use Rattle.icc.specs.Grid.{points}
-use Rattle.icc.specs.Numbers.{each16, Bytes}
+use Rattle.icc.specs.Numbers.{Bytes}
 use Rattle.fields.proofs.Written.{length16, then8, row8, row16, halvesAt, halves-length, halves-below}
 use Rattle.clut_meaning.specs.Clut.{is, gridAt, clutOf}
 use Rattle.clut_meaning.specs.Table.{Table, product, entriesOf, lengthOf}

@@ -1,16 +1,15 @@
 -- Entries are numbered in the order in which the standard writes a grid: the entry of an index and a channel is the number of that channel in the
 -- colour of that point. And any numbers, an entry for each output at each point, are the colours of the grid in that order.
 -- Assumes nothing.
-use Prim.Native.Nat.{ℕ, zero, suc, _+_, _*_, _≤_, _<_}
+use Prim.Native.Nat.{ℕ, zero, suc, _+_, _*_, _<_}
 use native.Mathlib.Omega.{arith}
-use native.Mathlib.Nat.{mul-le-mul-right, mul-assoc}
+use native.Mathlib.Nat.{mul-le-mul-right}
 use mathlib.Core.Path.{_≡_, refl, sym, ap, _∙_}
-use mathlib.Core.Bool.{Bool, true, false, _&&_, false≢true}
+use mathlib.Core.Bool.{true}
 use mathlib.Core.List.{List, [], _∷_, _++_}
-use lib.Dec.{ltb}
 use lib.ListN.{length, getD, take, drop, List·getD-append, length-append, length-drop, take-append-drop}
 use lib.Seq.{getD-append-add, length-take-le, drop-drop}
-use borrow.Author.Tests.{lt-ltb, ltb-true}
+use borrow.Author.Tests.{lt-ltb}
 use Rattle.icc.specs.Grid.{InGrid, along, inOrder, Coloured}
 use Rattle.clut_meaning.specs.Table.{product, inGrid, pointOf}
 use Rattle.clut_meaning.proofs.Grid.{below, point-below}

@@ -10,7 +10,7 @@ use lib.Dec.{eqb}
 use lib.ListN.{length, getD, take, drop, length-append, length-take, length-drop}
 use borrow.Author.Tests.{le-ltb, ne-eqb}
 use Rattle.icc.specs.Curves.{Curve, sampled, parametric, curveElement, curveType, Function, type0, type1, type2, type3, type4, encoded, parameters, Defined, parametricCurveType}
-use Rattle.icc.specs.Numbers.{be16, be32, each16, each32, Is32, Each32, Bytes}
+use Rattle.icc.specs.Numbers.{each16, each32, Is32, Each32, Bytes}
 use Rattle.fields.proofs.Written.{read16, read32, length16, length32, words-drop, words-written, below32, words-below, rest-bytes, part-bytes, then16, then32, row16, row32, halvesAt, halves-length}
 use Rattle.fields.specs.Bytes.{u16At, u32At, wordsAt}
 use Rattle.fields.specs.Tag.{signatureOf}

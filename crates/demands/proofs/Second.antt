@@ -1,8 +1,8 @@
 -- Demand 2's proved half, of every library that keeps the contracts: one answer a call, and conformance to what the standards write.
 -- Assumes nothing.
-use Prim.Native.Nat.{ℕ, _+_, _*_, _/_, _≤_, _<_, _^_}
+use Prim.Native.Nat.{ℕ, _≤_, _<_, _^_}
 use mathlib.Core.Path.{_≡_, refl, sym, ap, subst, _∙_}
-use mathlib.Core.List.{List, _++_}
+use mathlib.Core.List.{List}
 use mathlib.Core.Logic.{_⊎_}
 use lib.ListN.{length}
 use Rattle.icc.specs.Elements.{numbers as numbersIn, ClutAt, no-clut, the-clut}

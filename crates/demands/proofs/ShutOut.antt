@@ -13,7 +13,7 @@ use Rattle.icc.specs.Numbers.{each16, each32, Each32, NextMultipleOf4}
 use Rattle.icc.specs.Small.{eachXyz, xyzType}
 use Rattle.fields.specs.Tag.{signatureOf}
 use Rattle.curve_meaning.specs.Cases.{none, two}
-use Rattle.curve_meaning.specs.Shape.{Shape, empty, table, para, sizeOf, wordsOf}
+use Rattle.curve_meaning.specs.Shape.{Shape, empty, table, para, wordsOf}
 use Rattle.curve_meaning.specs.Standard.{Fits, toldOf, Tag}
 use Rattle.curve_meaning.specs.declared.Walk.the-variants.{Crate, Book}
 use Rattle.run.specs.Run.{Each}
@@ -26,7 +26,7 @@ use Rattle.lut_meaning.specs.declared.LutAnswer.{LutAnswer}
 use Rattle.lut_meaning.proofs.Conforms.{written-records}
 use Rattle.small_meaning.specs.Standard.{SomeXyz}
 use Rattle.demands.specs.Readers.{lut, Call, Library, Promised, says}
-use Rattle.demands.specs.Demands.{tag, curveAt, Demand1, Demand2}
+use Rattle.demands.specs.Demands.{curveAt, Demand1, Demand2}
 use Rattle.demands.specs.Cases.{Holds, call, lone}
 use Rattle.demands.specs.Wrong.{refusesAll, alwaysDefault, alwaysIdentity, unwritten, copied, madeUp, tooEarly, zeroed, copies, oneCurve, ShutOut}
 use Rattle.demands.proofs.Cases.{claim}

@@ -16,14 +16,14 @@ use Rattle.icc.specs.Text.{Ascii, terminated, textType, Description, IsDescript
 use Rattle.fields.specs.Bytes.{u16At, u32At, wordsAt}
 use Rattle.fields.specs.Place.{tagAt, countedSize}
 use Rattle.fields.specs.Tag.{signatureOf}
-use Rattle.fields.specs.declared.Kind.the-variants.{Sig, Dtim, Meas, View, Xyz, Cicp, Mab, Mba, Mft1, Mft2}
-use Rattle.clut_meaning.specs.Table.{Table, inGrid, numberOf, lengthOf}
+use Rattle.fields.specs.declared.Kind.the-variants.{Mab, Mba, Mft1, Mft2}
+use Rattle.clut_meaning.specs.Table.{Table, inGrid, numberOf}
 use Rattle.curve_meaning.specs.Answer.{Answer as Curve·Answer}
 use Rattle.curve_meaning.specs.Curve.{tagOf as Curve·tagOf}
-use Rattle.curve_meaning.specs.Shape.{Shape, empty, wordsOf, stepOf, recordWords}
+use Rattle.curve_meaning.specs.Shape.{empty, wordsOf, recordWords}
 use Rattle.curve_meaning.specs.Standard.{Fits, toldOf, stepTold, Tag, Lone}
 use Rattle.curve_meaning.specs.declared.Walk.{Walk}
-use Rattle.run.specs.Run.{Placed, placed, Stands, recordsOf, dataEnd}
+use Rattle.run.specs.Run.{Placed, placed, Stands, dataEnd}
 use Rattle.mft_meaning.specs.Answer.{Fields, toldTable as Mft·toldTable}
 use Rattle.mft_meaning.specs.Standard.{told16, told8, Taken as MftTaken, Begins16, Begins8}
 use Rattle.lut_meaning.specs.Abm.{toldTable as Abm·toldTable}

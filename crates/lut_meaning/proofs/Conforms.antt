@@ -9,26 +9,26 @@ use mathlib.Core.Bool.{Bool, true, false, cond, _&&_, _||_, and-false}
 use mathlib.Core.List.{List, [], _∷_, _++_, map, append-assoc}
 use mathlib.Core.Logic.{_⊎_, inl, inr}
 use lib.Dec.{ltb, eqb}
-use lib.ListN.{length, getD, take, drop, replicate, length-append, length-take, length-drop}
+use lib.ListN.{length, take, drop, replicate, length-append, length-take, length-drop}
 use borrow.Author.Tests.{eq-eqb, ne-eqb, le-ltb, eqb-true, eqb-false, ltb-false}
-use Rattle.icc.specs.Elements.{Stands, Direction, aToB, bToA, signature, Head, headElement, curvesA, curvesMB, PlacedCurve, CurvesFrom, Bias, twelve, matrixElement, precision, entryBytes, Clut, clutElement, ClutSized, CurveSet, no-curves, some-curves, MatrixAt, no-matrix, the-matrix, ClutAt, no-clut, the-clut, LutParts, LutCurves}
-use Rattle.icc.specs.Numbers.{be16, be32, each16, each32, Is32, Each32, Bytes}
+use Rattle.icc.specs.Elements.{Stands, Direction, aToB, bToA, signature, Head, headElement, curvesA, curvesMB, PlacedCurve, CurvesFrom, Bias, matrixElement, precision, entryBytes, clutElement, CurveSet, no-curves, some-curves, MatrixAt, no-matrix, the-matrix, ClutAt, no-clut, the-clut, LutParts, LutCurves}
+use Rattle.icc.specs.Numbers.{be32, each32, Is32, Each32, Bytes}
 use Rattle.icc.specs.Tables.{Matrix, Lut, nine, Sized, Entries16, lut16Type, lut8Type}
 use Rattle.fields.proofs.Written.{read32, words-drop, words-written, bytes-drop, bytes-written, below32, words-below, part-bytes, then8, then16, then32, row32}
 use Rattle.fields.specs.Bytes.{u16At, u32At, bytesAt, wordsAt}
 use Rattle.fields.specs.Place.{countedSize}
 use Rattle.fields.specs.Tag.{signatureOf}
-use Rattle.fields.specs.declared.Kind.the-variants.{Mab, Mba}
+use Rattle.fields.specs.declared.Kind.the-variants.{Mab}
 use Rattle.clut_meaning.specs.Clut.{is, clutOf}
 use Rattle.clut_meaning.specs.Table.{Table, lengthOf}
-use Rattle.clut_meaning.specs.Standard.{Taken as ClutTaken, told as tableTold}
+use Rattle.clut_meaning.specs.Standard.{told as tableTold}
 use Rattle.clut_meaning.proofs.Laid.{accepted as clut-accepted}
 use Rattle.clut_meaning.proofs.Conforms.{told-length, written-read as clut-written, read-written as clut-read}
 use Rattle.curve_meaning.specs.Shape.{recordWords}
 use Rattle.curve_meaning.specs.declared.Walk.{Walk}
 use Rattle.curve_meaning.specs.declared.Walk.the-variants.{Crate, Book}
-use Rattle.run.specs.Run.{Placed, whole, recordsOf, runAt, Each}
-use Rattle.run.specs.Standard.{seenOf, AllFit, Passes, Standing, NoneEmpty}
+use Rattle.run.specs.Run.{Placed, whole, recordsOf, runAt}
+use Rattle.run.specs.Standard.{seenOf, Passes, Standing, NoneEmpty}
 use Rattle.run.proofs.Runs.{run-count}
 use Rattle.run.proofs.Conforms.{written-run, run-written, map-length, records-are, passes-by}
 use Rattle.run.proofs.Writing.{records-append, records-length}
@@ -38,13 +38,13 @@ use Rattle.mft_meaning.specs.Layout.{isWide, isMft, matrixOf as mftMatrix}
 use Rattle.mft_meaning.specs.Mft.{mftOf}
 use Rattle.mft_meaning.specs.Standard.{told16, told8, Taken as MftTaken, Begins8, Begins16}
 use Rattle.mft_meaning.proofs.Conforms.{written-read16, written-read8, read-written as mft-written}
-use Rattle.lut_meaning.specs.Answer.{Abm, State as Abm·State, mft, abm, absent, refused, Answer, refuse, fromMft, leftBy}
+use Rattle.lut_meaning.specs.Answer.{Abm, State as Abm·State, mft, abm, absent, refused, Answer, refuse, fromMft}
 use Rattle.lut_meaning.specs.Judged.{good, ended}
 use Rattle.lut_meaning.specs.Layout.{toPcs, inputs, outputs, bOffset, matrixOffset, mOffset, clutOffset, aOffset, present, deviceChannels, spaceChannels, aCurves, mCurves, bCurves, planOf, recordsNeeded, matrixOf, biasOf, gridOf}
 use Rattle.lut_meaning.specs.Lut.{byType, lutOf, leftOf}
 use Rattle.lut_meaning.specs.Parts.{runA, runM, runB, runsJudged, curvesOf, matrixJudged}
 use Rattle.lut_meaning.specs.Standard.{towardsPcs, curvesThere, Counts, matrixTold, biasTold, MatrixTaken, startTold, bytesTold, sizeTold, gridTold, ClutFits, told, recordsWritten, PartsTaken, CurvesTaken, PartsAs, TagAs, PassesBy}
-use Rattle.lut_meaning.proofs.Found.{IsValue, Accepted, accepted, mft-value, in-profile, abm-found, mft-found}
+use Rattle.lut_meaning.proofs.Found.{Accepted, mft-value, in-profile, abm-found, mft-found}
 use Rattle.lut_meaning.proofs.Inside.{matrix-inside}
 use Rattle.lut_meaning.proofs.Shared.{a-whole, m-whole, b-whole}
 

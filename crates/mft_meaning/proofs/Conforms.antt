@@ -4,22 +4,22 @@ use Prim.Native.Nat.{ℕ, _+_, _*_, _^_, _≤_}
 use native.Mathlib.Omega.{arith}
 use mathlib.Core.Path.{_≡_, refl, sym, ap, _∙_}
 use mathlib.Core.Bool.{true, false}
-use mathlib.Core.List.{List, [], _∷_, _++_, append-assoc}
+use mathlib.Core.List.{List, _∷_, _++_, append-assoc}
 use lib.Dec.{eqb}
 use mathlib.Core.Logic.{_⊎_, inl, inr}
 use lib.ListN.{length, getD, take, drop, replicate, length-append, length-drop}
 use lib.Seq.{length-take-le}
 use borrow.Author.Tests.{eq-eqb}
-use Rattle.icc.specs.Numbers.{be16, be32, each16, each32, Is32, Each32, Bytes}
+use Rattle.icc.specs.Numbers.{be32, each16, each32, Bytes}
 use Rattle.icc.specs.Tables.{Matrix, Lut, nine, Sized, Entries16, lut16Type, lut8Type}
 use Rattle.fields.proofs.Written.{read16, length16, words-drop, words-written, words-below, then8, then16, then32, row8, row16, row32, halvesAt, halves-length, halves-below}
 use Rattle.fields.specs.Bytes.{u16At, u32At, wordsAt}
 use Rattle.fields.specs.Tag.{signatureOf}
 use Rattle.fields.specs.declared.Kind.the-variants.{Mft1, Mft2}
-use Rattle.clut_meaning.specs.Table.{product, pointsOf, lengthOf}
+use Rattle.clut_meaning.specs.Table.{product}
 use Rattle.clut_meaning.proofs.Grid.{power-is}
-use Rattle.mft_meaning.specs.Answer.{Fields, State, value, Answer, fieldsOf, answerOf}
-use Rattle.mft_meaning.specs.Layout.{isWide, entrySize, tablesStart, entriesAt, inputs, outputs, gridPoints, inputEntries, outputEntries, matrixOf, colourTable, tablesEnd}
+use Rattle.mft_meaning.specs.Answer.{Fields, value, fieldsOf, answerOf}
+use Rattle.mft_meaning.specs.Layout.{isWide, entrySize, tablesStart, entriesAt, inputs, outputs, gridPoints, inputEntries, outputEntries, matrixOf, colourTable}
 use Rattle.mft_meaning.specs.Mft.{mftOf}
 use Rattle.mft_meaning.specs.Standard.{told, told16, told8, Taken, Begins16, Begins8}
 use Rattle.mft_meaning.proofs.Laid.{LaidOut, Asked, conforms, accepted}

@@ -14,7 +14,7 @@ use Rattle.icc.specs.Elements.{Stands, PlacedCurve, CurvesFrom}
 use Rattle.icc.specs.Numbers.{Bytes, NextMultipleOf4}
 use Rattle.fields.proofs.Written.{rest-bytes}
 use Rattle.curve_meaning.specs.Shape.{Shape, is, empty, table, para, sizeOf, stepOf, wordsOf}
-use Rattle.curve_meaning.specs.Standard.{shapeOf, Fits, Begins}
+use Rattle.curve_meaning.specs.Standard.{shapeOf, Fits}
 use Rattle.curve_meaning.specs.declared.Walk.{Walk}
 use Rattle.curve_meaning.specs.declared.Walk.the-variants.{Crate, Book}
 use Rattle.curve_meaning.proofs.Inside.{book-step, size-least}

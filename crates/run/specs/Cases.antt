@@ -3,7 +3,7 @@ use Prim.Native.Nat.{ℕ}
 use mathlib.Core.Path.{_≡_}
 use mathlib.Core.List.{List, [], _∷_, _++_, map}
 use Rattle.curve_meaning.specs.Cases.{curv, para, none}
-use Rattle.curve_meaning.specs.Shape.{Shape, empty, table, para as function}
+use Rattle.curve_meaning.specs.Shape.{empty, table, para as function}
 use Rattle.curve_meaning.specs.declared.Walk.{Walk}
 use Rattle.curve_meaning.specs.declared.Walk.the-variants.{Crate, Book}
 use Rattle.run.specs.Run.{Placed, End, whole, stopped, placed, runAt, recordsOf, endOf, dataEnd}

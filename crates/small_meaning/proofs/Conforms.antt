@@ -4,26 +4,26 @@
 -- Assumes nothing.
 use Prim.Native.Nat.{ℕ, _+_, _-_, _*_, _/_, _≤_}
 use native.Mathlib.Omega.{arith}
-use mathlib.Core.Path.{_≡_, refl, sym, ap, _∙_, subst}
+use mathlib.Core.Path.{_≡_, refl, sym, ap, _∙_}
 use mathlib.Core.List.{List, [], _∷_, _++_, append-nil}
 use lib.ListN.{length, getD, take, drop, drop-of-length-le, length-append, length-take, length-drop, take-append-drop}
 use lib.Seq.{take-take, length-take-le}
 use borrow.Author.Tests.{le-ltb, eq-eqb}
-use Rattle.icc.specs.Numbers.{be16, be32, each32, Is32, Each32, Bytes}
+use Rattle.icc.specs.Numbers.{be32, each32, Is32, Each32, Bytes}
 use Rattle.icc.specs.Small.{XYZNumber, DateTime, dateTimeNumber, Measurement, ViewingConditions, Cicp, s15Fixed16ArrayType, signatureType, dateTimeType, measurementType, viewingConditionsType, eachXyz, xyzType, cicpType}
-use Rattle.fields.proofs.Written.{read32, length32, words-drop, words-written, bytes-drop, bytes-written, part-bytes, then8, then16, then32, row32}
+use Rattle.fields.proofs.Written.{read32, length32, words-drop, words-written, bytes-drop, part-bytes, then8, then16, then32, row32}
 use Rattle.fields.specs.Bytes.{u16At, u32At, bytesAt, wordsAt}
 use Rattle.fields.specs.Place.{tagAt}
 use Rattle.fields.specs.Tag.{signatureOf}
 use Rattle.fields.specs.declared.Kind.{Kind}
-use Rattle.fields.specs.declared.Kind.the-variants.{Xyz, Sf32, Meas, View, Cicp as KindCicp, Sig, Dtim}
+use Rattle.fields.specs.declared.Kind.the-variants.{Xyz, Meas, View, Cicp as KindCicp, Sig, Dtim}
 use Rattle.fields.proofs.Append.{u32-append}
 use Rattle.fields.proofs.Words.{words-length}
 use Rattle.small_meaning.specs.Answer.{Answer, value, default, absent, refused, paperChad, paperSig, paperCicp, paperXyz, paperMeas, paperView}
 use Rattle.small_meaning.specs.Layout.{nineNumbers, signatureIn, dateBytes, measurement, conditions, firstXyz, codePoints}
 use Rattle.small_meaning.specs.Order.{foundOf, answerTo}
 use Rattle.small_meaning.specs.Small.{matrixOf, chadOf, sigOf, dateOf, windowOf, measOf, viewOf, tripleOf, xyzOf, cicpOf}
-use Rattle.small_meaning.specs.Standard.{signatureTold, xyzTold, SomeXyz, someXyzType, firstTold, measurementTold, viewTold, cicpTold, WrittenRead, Begins, ReadWritten, BeginsNine, BeginsDate}
+use Rattle.small_meaning.specs.Standard.{signatureTold, SomeXyz, someXyzType, firstTold, measurementTold, viewTold, cicpTold, WrittenRead, ReadWritten, BeginsNine, BeginsDate}
 use Rattle.small_meaning.specs.declared.ChadAnswer.{ChadAnswer}
 use Rattle.small_meaning.specs.declared.CicpAnswer.{CicpAnswer}
 use Rattle.small_meaning.specs.declared.MeasAnswer.{MeasAnswer}

@@ -1,16 +1,16 @@
 -- The view of a lookup table that the standard writes shows its colours, each at its point: of a CLUT element, and of the CLUT of lut16Type and
 -- lut8Type.
 -- Assumes nothing.
-use Prim.Native.Nat.{ℕ, zero, suc, _+_, _*_, _^_, _≤_, _<_, min}
+use Prim.Native.Nat.{ℕ, _+_, _*_, _^_, _≤_, _<_, min}
 use native.Mathlib.Omega.{arith}
-use mathlib.Core.Path.{_≡_, refl, sym, ap, _∙_, subst}
+use mathlib.Core.Path.{_≡_, refl, sym, ap, _∙_}
 use mathlib.Core.Bool.{Bool}
 use mathlib.Core.List.{List, [], _∷_, _++_, append-assoc}
 use lib.ListN.{length, getD, take, drop, replicate, List·getD-append, length-append}
 use lib.Seq.{take-at, drop-at, drop-drop, getD-drop}
 use borrow.Author.Tests.{ne-eqb}
-use Rattle.icc.specs.Elements.{Stands, Entries, bytes, words, precision, numbers, EntriesFit, entryBytes, Clut, clutElement, ClutSized, ClutAt, no-clut, the-clut, LutParts}
-use Rattle.icc.specs.Grid.{InGrid, Coloured}
+use Rattle.icc.specs.Elements.{Stands, Entries, bytes, words, precision, numbers, EntriesFit, entryBytes, Clut, clutElement, ClutAt, no-clut, the-clut, LutParts}
+use Rattle.icc.specs.Grid.{InGrid}
 use Rattle.icc.specs.Numbers.{each16, each32, Each16}
 use Rattle.icc.specs.Tables.{Lut, Sized, lut16Type, lut8Type}
 use Rattle.fields.specs.Place.{countedSize}
@@ -28,7 +28,7 @@ use Rattle.table_meaning.specs.Answer.{Told, value}
 use Rattle.table_meaning.specs.Standard.{ShowsColours, ShowsClut}
 use Rattle.table_meaning.specs.View.{tableBy, numbersOf, storedAt, entryOf}
 use Rattle.table_meaning.proofs.Any.{empty-absent}
-use Rattle.table_meaning.proofs.Shows.{Shows, abm-shows, mft-shows}
+use Rattle.table_meaning.proofs.Shows.{abm-shows, mft-shows}
 
 -- ---- an entry by its number
 

@@ -3,7 +3,7 @@
 use Prim.Native.Nat.{ℕ}
 use native.Mathlib.Omega.{arith}
 use mathlib.Core.Path.{_≡_, refl}
-use mathlib.Core.List.{List, [], _∷_, _++_}
+use mathlib.Core.List.{List, [], _∷_}
 use lib.ListN.{replicate}
 use Rattle.icc.specs.Numbers.{each16, Each16}
 use Rattle.icc.specs.Text.{Ascii, Utf16, terminated, textType, asciiPart, unicodePart, scriptPart, characters, unicodeString, IsUnicode, Description, textDescriptionType, IsDescription, Localized, recordElement, recordElements, localizedHead, StringsAt, LocalizedTag}
