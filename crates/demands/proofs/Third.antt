@@ -1,20 +1,15 @@
 -- Demand 3 of every library that keeps the contracts: bytes, limits and slots each alone, along the readers' own theorems, then together.
 -- Assumes nothing.
-use Prim.Native.Nat.{ℕ, _+_, _/_, _≤_, _<_}
+use Prim.Native.Nat.{ℕ, _+_, _≤_, _<_}
 use native.Mathlib.Omega.{arith}
 use mathlib.Core.Path.{_≡_, refl, sym, ap, subst, _∙_}
 use mathlib.Core.Bool.{Bool, true, false}
 use mathlib.Core.List.{List, [], _++_, append-nil, append-assoc}
 use mathlib.Core.Logic.{_⊎_, inl, inr}
-use lib.Dec.{ltb, eqb}
+use lib.Dec.{ltb}
 use lib.ListN.{length, drop, length-append}
 use lib.Seq.{drop-append-le}
 use borrow.Author.Tests.{ltb-true, ltb-false}
-use Rattle.fields.specs.Bytes.{u32At}
-use Rattle.fields.specs.Place.{countedSize}
-use Rattle.fields.specs.Tag.{signatureOf}
-use Rattle.fields.specs.declared.Kind.the-variants.{Text, Mluc, Desc}
-use Rattle.fields.proofs.Choice.{each}
 use Rattle.fields.proofs.Grow.{Grows}
 use Rattle.curve_meaning.specs.Answer.{Answer as Curve·Answer}
 use Rattle.curve_meaning.specs.Curve.{trcOf}
@@ -30,14 +25,12 @@ use Rattle.small_meaning.specs.Answer.{Answer as Small·Answer}
 use Rattle.small_meaning.proofs.Last.{chad-not-14, sig-not-14, date-not-14, meas-not-14, view-not-14, xyz-not-14, cicp-not-14}
 use Rattle.small_meaning.proofs.More.{Past, chad-more, sig-more, date-more, meas-more, view-more, xyz-more, cicp-more}
 use Rattle.text_meaning.specs.Answer.{Answer as Text·Answer, leftBy as Text·leftBy}
-use Rattle.text_meaning.specs.Layout.{asciiEnd}
-use Rattle.text_meaning.specs.Mluc.{End, whole, stopped, header, string as string-fault, recordsIn, recordsAsked, wordsIn, recordWords as textWords}
-use Rattle.text_meaning.specs.Text.{textOf, descOf, slottedOf, endedBy, mlucOf, byType, stringOf, tagOf as Text·tagOf}
-use Rattle.text_meaning.proofs.Found.{Value}
+use Rattle.text_meaning.specs.Mluc.{recordsIn, wordsIn}
+use Rattle.text_meaning.proofs.Found.{Value, found}
 use Rattle.text_meaning.proofs.Last.{fourteen-behind as text-fourteen, enough as text-enough}
 use Rattle.text_meaning.proofs.More.{more-bytes as text-bytes, more-slots as text-slots, value-stays as text-stays}
 use Rattle.text_meaning.proofs.Shared.{words-length}
-use Rattle.text_meaning.proofs.Taken.{Taken, accepted}
+use Rattle.text_meaning.proofs.Taken.{Taken, mluc-room, accepted}
 use Rattle.demands.specs.Readers.{Small, chad, sig, date, meas, view, xyz, cicp, Reader, lut, trc, string, small, Call, smallOf, meaning, left, Outcome, value, default, absent, refused, outcome, lutOutcome, curveOutcome, smallOutcome, textOutcome, Library, ends, Promised}
 use Rattle.demands.specs.Demands.{tag, appended, raised, lent, Same, ByBytes, ByLimits, BySlots, wordsAsked, Demand3, given}
 use Rattle.demands.proofs.Ends.{Spares, left-spared, ends-so}
@@ -176,35 +169,6 @@ fourteen (small s) c h = absurd (small-not-14 s (c .profile) (c .entry) (c .size
 
 -- ---- the slots
 
--- the records of `mluc` have room
-module _ (p : List ℕ) (entry size words : ℕ) where
-  abbrev Room : Text·Answer → Type 0
-  Room a = (n : ℕ) → a ≡ Text·Answer.mluc n → n ≤ words / textWords
-
-  ended-room : (x : End) (n : ℕ) → Room (endedBy x (slottedOf n words))
-  unfolding slottedOf
-  ended-room whole n =
-      each Room (ltb (words / textWords) n) _ _ (λ _ m e. let z : _≡_ {A = ℕ} 0 1 = cc in absurd (omega arith))
-      (λ l m e. let same : n ≡ m = cc in omega (arith, ltb-false (words / textWords) n l))
-  ended-room (stopped header) n = λ m e. let z : _≡_ {A = ℕ} 0 1 = cc in absurd (omega arith)
-  ended-room (stopped string-fault) n = λ m e. let z : _≡_ {A = ℕ} 0 1 = cc in absurd (omega arith)
-
-  string-room : Room (stringOf p entry size words)
-  unfolding stringOf byType textOf mlucOf descOf
-  string-room =
-      let t : List ℕ = Text·tagOf p entry size in
-      let past : (n : ℕ) → Room (Text·Answer.refused n) = λ n m e. let z : _≡_ {A = ℕ} 0 1 = cc in absurd (omega arith) in
-      let no : Room Text·Answer.absent = λ m e. let z : _≡_ {A = ℕ} 0 1 = cc in absurd (omega arith) in
-      each Room (ltb (countedSize size) 4) _ _ (λ _. no)
-      (λ _. each Room (ltb (length p) (entry + countedSize size)) _ _ (λ _. past 1)
-      (λ _. each Room (ltb (countedSize size) 8) _ _ (λ _. no)
-      (λ _. each Room (eqb (u32At t 0) (signatureOf Text)) _ _ (λ _ m e. let z : _≡_ {A = ℕ} 0 1 = cc in absurd (omega arith))
-      (λ _. each Room (eqb (u32At t 0) (signatureOf Mluc)) _ _ (λ _. ended-room (recordsIn t .end) (recordsAsked t))
-      (λ _. each Room (eqb (u32At t 0) (signatureOf Desc)) _ _
-      (λ _. each Room (ltb (length t) 12) _ _ (λ _. past 2)
-      (λ _. each Room (ltb (length t) (asciiEnd t)) _ _ (λ _. past 2) (λ _ m e. let z : _≡_ {A = ℕ} 0 1 = cc in absurd (omega arith))))
-      (λ _. no))))))
-
 -- of a value every word is left as before, and those lent besides stay
 lut-left : (walk : Walk) (c : Call) (q : List ℕ) (entries points : ℕ) (x : List ℕ) → c .entries ≤ entries → c .points ≤ points → outcome (lut walk) (meaning (lut walk) c) ≡ value → left (lut walk) (given q entries points x c) ≡ left (lut walk) c ++ x
 unfolding IsValue
@@ -235,7 +199,7 @@ text-left c q x v =
     by (Text·Answer.mluc n) e =
         let ws : List ℕ = wordsIn (recordsIn (tag c) .records) in
         let taken : Taken (tag c) (Text·Answer.mluc n) = subst (Taken (tag c)) e (accepted (c .profile) (c .entry) (c .size) (length (c .slots)) (is-value (meaning string c) v) .laid) in
-        let fits : length ws ≤ length (c .slots) = omega (arith, words-length (recordsIn (tag c) .records), taken .count-is, string-room (c .profile) (c .entry) (c .size) (length (c .slots)) n e) in
+        let fits : length ws ≤ length (c .slots) = omega (arith, words-length (recordsIn (tag c) .records), mluc-room (tag c) (recordsIn (tag c) .records) (length (c .slots)) n (taken .taken) (sym (found (c .profile) (c .entry) (c .size) (length (c .slots)) (is-value (meaning string c) v) .as-tag) ∙ e)) in
         rw (drop-append-le (length ws) (c .slots) x fits) (sym (append-assoc ws (drop (length ws) (c .slots)) x))
     by Text·Answer.absent e = refl
     by (Text·Answer.refused n) e = refl
