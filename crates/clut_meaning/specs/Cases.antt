@@ -5,7 +5,7 @@ use mathlib.Core.List.{List, [], _∷_, _++_, map}
 use lib.ListN.{take, replicate}
 use Rattle.clut_meaning.specs.Answer.{Told, value, refused, toldOf}
 use Rattle.clut_meaning.specs.Clut.{Seen, is, no, clutOf}
-use Rattle.clut_meaning.specs.Table.{entriesOf, lastOf, numberOf}
+use Rattle.clut_meaning.specs.Table.{entriesOf, pointOf, lastOf, numberOf}
 
 pub data Case : Type 0 where
   -- tag, input and output channels, and the answer at offset 0
@@ -14,6 +14,8 @@ pub data Case : Type 0 where
   givesAt : List ℕ → ℕ → ℕ → ℕ → Told → Case
   -- tag, input and output channels, and of the table there the entries, what check 18 compares them with, and the last entry's number
   numbers : List ℕ → ℕ → ℕ → List ℕ → Case
+  -- a grid, and the number of one of its points
+  point : List ℕ → List ℕ → ℕ → Case
 
 unfoldable pub numbersIn : Seen → List ℕ
 numbersIn (is table) =
@@ -24,6 +26,7 @@ unfoldable pub Holds : Case → Type 0
 Holds (gives t inputs outputs a) = toldOf (clutOf t 0 inputs outputs) ≡ a
 Holds (givesAt t at inputs outputs a) = toldOf (clutOf t at inputs outputs) ≡ a
 Holds (numbers t inputs outputs ns) = numbersIn (clutOf t 0 inputs outputs) ≡ ns
+Holds (point grid index n) = pointOf grid index ≡ n
 
 unfoldable pub All : List Case → Type 0
 All [] = Unit
@@ -57,6 +60,9 @@ cases =
     -- six points of two entries of two bytes each, two bytes behind the front of the tag
     givesAt (9 ∷ 9 ∷ tag (2 ∷ 3 ∷ 0 ∷ 0 ∷ []) 2) 2 2 2 (value 6 22 24 2) ∷
     numbers (tag (2 ∷ 3 ∷ 0 ∷ 0 ∷ []) 2) 2 2 (12 ∷ 10 ∷ 11 ∷ []) ∷
+    -- the points of the last dimension stand side by side
+    point (2 ∷ 3 ∷ []) (0 ∷ 1 ∷ []) 1 ∷
+    point (2 ∷ 3 ∷ []) (1 ∷ 0 ∷ []) 3 ∷
     -- without input channels there is one point
     gives (tag cube 1) 0 3 (value 1 20 3 1) ∷
     -- no byte an entry; a dimension of 1 comes before that
