@@ -11,7 +11,7 @@ use Rattle.curve_meaning.specs.declared.Walk.{Walk}
 use Rattle.curve_meaning.specs.declared.Walk.the-variants.{Crate, Book}
 use Rattle.run.specs.Cases.{single, gamma}
 use Rattle.mft_meaning.specs.Cases.{wideFields, oneToNine}
-use Rattle.lut_meaning.specs.Answer.{State, mft, abm, Answer, none, refuse}
+use Rattle.lut_meaning.specs.Answer.{State, mft, abm, absent, refused, Answer}
 use Rattle.lut_meaning.specs.Lut.{lutOf, leftOf}
 
 -- walk, profile and size, the lent words, and the answer and the words as they are left
@@ -127,6 +127,13 @@ withMatrix s matrix bias = record { state = s; grid = replicate 16 0; matrix = m
 abbrev pub plain : State → Answer
 plain s = withMatrix s (65536 ∷ 0 ∷ 0 ∷ 0 ∷ 65536 ∷ 0 ∷ 0 ∷ 0 ∷ 65536 ∷ []) (0 ∷ 0 ∷ 0 ∷ [])
 
+-- zeros stand beside an absence and a refusal
+abbrev pub none : Answer
+none = withMatrix absent (replicate 9 0) (0 ∷ 0 ∷ 0 ∷ [])
+
+abbrev pub refusal : ℕ → Answer
+refusal n = withMatrix (refused n) (replicate 9 0) (0 ∷ 0 ∷ 0 ∷ [])
+
 -- the answer with a colour table, and the numbers 1 to 12 of the matrix and its bias
 abbrev pub full : State → List ℕ → Answer
 full s grid = record { state = s; grid = grid; matrix = oneToNine; bias = 10 ∷ 11 ∷ 12 ∷ [] }
@@ -153,24 +160,24 @@ cases =
     gives Crate tag 72 (slots 3) (plain threeB) (emptyAt 44 ++ emptyAt 44 ++ emptyAt 44) ∷
     gives Book tag 72 (slots 3) (plain threeB) (emptyAt 44 ++ emptyAt 56 ++ straightAt 68) ∷
     gives Book tag 72 (slots 4) (plain threeB) (emptyAt 44 ++ emptyAt 56 ++ straightAt 68 ++ slots 1) ∷
-    gives Crate tag 72 (slots 2) (refuse 14) (slots 2) ∷
-    gives Book tag 72 (slots 2) (refuse 14) (slots 2) ∷
+    gives Crate tag 72 (slots 2) (refusal 14) (slots 2) ∷
+    gives Book tag 72 (slots 2) (refusal 14) (slots 2) ∷
     -- all five parts; the first A curve has 14 bytes, and the second starts at the next multiple of 4
     gives Book fullTag 184 (slots 4) (full (abm record { toPcs = true; inputs = 2; outputs = 1; start = 100; bytes = 12; size = 2; a = 2; m = 1; b = 1 }) (gridWith 2 3)) (tableAt 124 1 ++ gammaAt 140 ++ straightAt 164 ++ tableAt 180 2) ∷
     -- all five parts of `mBA `: the A curves are the outputs', and the colour table is by the inputs as well
     gives Crate fullBack 178 (slots 4) (full (abm record { toPcs = false; inputs = 1; outputs = 2; start = 172; bytes = 6; size = 1; a = 2; m = 1; b = 1 }) (gridWith 3 2)) (tableAt 44 1 ++ gammaAt 60 ++ tableAt 100 2 ++ straightAt 84) ∷
     -- the matrix is judged first, then the colour table, then the curves
-    gives Book (faulty 32 32) 52 [] (refuse 2) [] ∷
-    gives Book (faulty 0 32) 52 [] (refuse 8) [] ∷
-    gives Book (faulty 0 0) 52 [] (refuse 9) [] ∷
+    gives Book (faulty 32 32) 52 [] (refusal 2) [] ∷
+    gives Book (faulty 0 32) 52 [] (refusal 8) [] ∷
+    gives Book (faulty 0 0) 52 [] (refusal 9) [] ∷
     -- `mft2` takes no slots, and has neither sixteen grid bytes nor a bias
     gives Book mftTag 80 (slots 1) record { state = mft wideFields; grid = replicate 16 0; matrix = 52 ∷ replicate 8 0; bias = 0 ∷ 0 ∷ 0 ∷ [] } (slots 1) ∷
     -- past the profile, also where it is under 48 bytes; under 48 bytes; a size of 0 counts as 12; another type
-    gives Crate tag 73 (slots 3) (refuse 1) (slots 3) ∷
-    gives Crate [] 0 [] (refuse 1) [] ∷
-    gives Crate tag 47 (slots 3) (refuse 2) (slots 3) ∷
-    gives Crate tag 0 (slots 3) (refuse 2) (slots 3) ∷
-    gives Crate (bare 0x41 0x41 3 3) 48 [] (refuse 3) [] ∷
+    gives Crate tag 73 (slots 3) (refusal 1) (slots 3) ∷
+    gives Crate [] 0 [] (refusal 1) [] ∷
+    gives Crate tag 47 (slots 3) (refusal 2) (slots 3) ∷
+    gives Crate tag 0 (slots 3) (refusal 2) (slots 3) ∷
+    gives Crate (bare 0x41 0x41 3 3) 48 [] (refusal 3) [] ∷
     -- more than four channels on one side alone are no absence; nor is it one to have no channels
     gives Crate (bare 0x41 0x42 5 4) 48 [] (plain (curvesOnly 5 4 0 0)) [] ∷
     gives Crate (bare 0x41 0x42 4 5) 48 [] (plain (curvesOnly 4 5 0 0)) [] ∷
@@ -178,9 +185,9 @@ cases =
     -- more than four channels on each side are absent, whatever the curves
     gives Crate tagOfFive 48 (slots 5) none (slots 5) ∷
     -- a run that is cut off is refused before the slots are counted
-    gives Book tag 60 [] (refuse 2) [] ∷
+    gives Book tag 60 [] (refusal 2) [] ∷
     gives Book tagOfM 56 (slots 2) (plain (curvesOnly 1 2 2 0)) (emptyAt 44 ++ emptyAt 56) ∷
     gives Book tagOfMatrix 80 [] (withMatrix (curvesOnly 3 3 0 0) oneToNine (10 ∷ 11 ∷ 12 ∷ [])) [] ∷
     -- a matrix and its bias have 48 bytes
-    gives Book tagOfMatrix 79 [] (refuse 2) [] ∷
+    gives Book tagOfMatrix 79 [] (refusal 2) [] ∷
     []

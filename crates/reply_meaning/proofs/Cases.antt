@@ -35,4 +35,4 @@ use Rattle.reply_meaning.specs.Words.{refusedText, mftWord, abmWord}
 
 pub claim : All cases
 unfolding All Holds printed curveText curveAnswer trcOf curveOf curvOf paraOf divides parameterCount sizeOf stepOf wordsOf raised curveAt runAt recordsOf abmOf judgedOf recordedOf valueFrom tableOf runsJudged curvesOf matrixJudged ended present deviceChannels spaceChannels aCurves mCurves bCurves planOf recordsNeeded gridOf abmMatrix biasOf stringOf stringByType textOf unicodeOf descOf slottedOf mlucOf recordsIn recordsAsked recordsFrom recordAt even wordsIn keptOf byteOf unitOf windowOf tripleOf signatureIn dateBytes measurement conditions firstXyz codePoints measured viewed rangeText stateText stringText lentText mftWord abmWord bytesAt recordText answerOf replyOf markedFrom tailOf plainOf smallText viewText entryText entryAt refusedText numerals numbers row numeral number decimal digitsOf foundOf answerTo chadOf matrixOf nineNumbers lutOf byType isMft isWide mftOf numbersOf badNumbers badEntries badChannels outside tablesOf fieldsOf mftAnswer entrySize tablesStart entriesAt colourTable product entryOf entryFrom gridFrom inGrid pointOf wordsAt signatureOf
-claim = (refl, (refl, (refl, (refl, (refl, (refl, (refl, (refl, (refl, (refl, (refl, (refl, (refl, (refl, (refl, (refl, (refl, (refl, (refl, (refl, (refl, tt)))))))))))))))))))))
+claim = (refl, (refl, (refl, (refl, (refl, (refl, (refl, (refl, (refl, (refl, (refl, (refl, (refl, (refl, (refl, (refl, (refl, (refl, (refl, (refl, (refl, (refl, tt))))))))))))))))))))))

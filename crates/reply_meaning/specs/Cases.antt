@@ -56,9 +56,9 @@ mftTag =
     ++ (0 ∷ 2 ∷ 0 ∷ 2 ∷ 0 ∷ 0 ∷ 0 ∷ 0 ∷ 0 ∷ 1 ∷ 0 ∷ 2 ∷ 0 ∷ 3 ∷ 0 ∷ 4 ∷ 0 ∷ 5 ∷ 0 ∷ 6 ∷ [])
     ++ replicate 12 0
 
--- one coordinate, 0, and output channel 1
-abbrev pub indexBytes : List ℕ
-indexBytes = 1 ∷ (replicate 16 0 ++ (1 ∷ []))
+-- one coordinate, and output channel 1
+abbrev pub indexBytes : ℕ → List ℕ
+indexBytes x = 1 ∷ x ∷ (replicate 15 0 ++ (1 ∷ []))
 
 -- the letters of the kinds of answer, and of the types
 abbrev pub valueLetters : List ℕ
@@ -105,10 +105,11 @@ cases =
     says 4 chadTag 44 [] (
     (0x76 ∷ 0x61 ∷ 0x6c ∷ 0x75 ∷ 0x65 ∷ 0x20 ∷ 0x2d ∷ 0x31 ∷ 0x20 ∷ 0x30 ∷ 0x20 ∷ 0x30 ∷ 0x20 ∷ 0x30 ∷ 0x20 ∷ 0x30 ∷ [])
     ++ (0x20 ∷ 0x30 ∷ 0x20 ∷ 0x30 ∷ 0x20 ∷ 0x30 ∷ 0x20 ∷ 0x30 ∷ 0x0a ∷ [])) ∷
-    -- "value 2"
-    says 13 mftTag 80 indexBytes (0x76 ∷ 0x61 ∷ 0x6c ∷ 0x75 ∷ 0x65 ∷ 0x20 ∷ 0x32 ∷ 0x0a ∷ []) ∷
+    -- "value 2", at coordinate 0, and "value 5", at 1
+    says 13 mftTag 80 (indexBytes 0) (0x76 ∷ 0x61 ∷ 0x6c ∷ 0x75 ∷ 0x65 ∷ 0x20 ∷ 0x32 ∷ 0x0a ∷ []) ∷
+    says 13 mftTag 80 (indexBytes 1) (0x76 ∷ 0x61 ∷ 0x6c ∷ 0x75 ∷ 0x65 ∷ 0x20 ∷ 0x35 ∷ 0x0a ∷ []) ∷
     -- "refused 1", of a table past the profile
-    says 13 [] 80 indexBytes (0x72 ∷ 0x65 ∷ 0x66 ∷ 0x75 ∷ 0x73 ∷ 0x65 ∷ 0x64 ∷ 0x20 ∷ 0x31 ∷ 0x0a ∷ []) ∷
+    says 13 [] 80 (indexBytes 0) (0x72 ∷ 0x65 ∷ 0x66 ∷ 0x75 ∷ 0x73 ∷ 0x65 ∷ 0x64 ∷ 0x20 ∷ 0x31 ∷ 0x0a ∷ []) ∷
     -- 1 and 11, lookup tables: `mft1`, `mft2`, an `mBA ` tag that has no part, and an `mAB ` tag of two empty M curves on the book walk
     leaves 1 (narrow 1088) 1136 0 (valueOf 0x6d 0x66 0x74 0x31) (pos 3 ∷ pos 1 ∷ pos 4 ∷ pos 256 ∷ pos 256 ∷ (oneToNine ++ (pos 48 ∷ pos 768 ∷ pos 816 ∷ pos 64 ∷ pos 880 ∷ pos 256 ∷ []))) [] ∷
     leaves 1 (counted 0 2 0 3 34) 86 0 (valueOf 0x6d 0x66 0x74 0x32) (pos 1 ∷ pos 3 ∷ pos 2 ∷ pos 2 ∷ pos 3 ∷ (oneToNine ++ (pos 52 ∷ pos 4 ∷ pos 56 ∷ pos 12 ∷ pos 68 ∷ pos 18 ∷ []))) [] ∷
