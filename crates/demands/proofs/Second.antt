@@ -129,30 +129,30 @@ module _ (l : Library) (p : Promised l) where
         wide-read = λ walk c reserved reserved2 n m x rest i long f en em z e. p .answers (lut walk) c ∙ profile-read16 (c .entries) (c .points) (c .profile) (c .entry) (c .size) (length (c .slots)) i long walk reserved reserved2 n m x rest f en em z e;
         narrow-read = λ walk c reserved reserved2 x rest i long f z e. p .answers (lut walk) c ∙ profile-read8 (c .entries) (c .points) (c .profile) (c .entry) (c .size) (length (c .slots)) i long walk reserved reserved2 x rest f z e;
         mft-written = mft-written;
-        text-read = λ c reserved cs h i e. p .answers string c ∙ Text.text-written (c .profile) (c .entry) (c .size) i (length (c .slots)) reserved cs h e;
-        text-written = λ c b s e. Text.text-read (c .profile) b (c .entry) (c .size) (length (c .slots)) s (sym (p .answers string c) ∙ e);
-        desc-read = λ c reserved d rest h i e. p .answers string c ∙ Text.desc-written (c .profile) (c .entry) (c .size) i (length (c .slots)) reserved d rest h e;
-        desc-written = λ c b s u e. Text.desc-read (c .profile) b (c .entry) (c .size) (length (c .slots)) s u (sym (p .answers string c) ∙ e);
+        text-read = λ c reserved cs h i e. p .answers string c ∙ Text.text-read (c .profile) (c .entry) (c .size) i (length (c .slots)) reserved cs h e;
+        text-written = λ c b s e. Text.text-written (c .profile) b (c .entry) (c .size) (length (c .slots)) s (sym (p .answers string c) ∙ e);
+        desc-read = λ c reserved d rest h i e. p .answers string c ∙ Text.desc-read (c .profile) (c .entry) (c .size) i (length (c .slots)) reserved d rest h e;
+        desc-written = λ c b s u e. Text.desc-written (c .profile) b (c .entry) (c .size) (length (c .slots)) s u (sym (p .answers string c) ∙ e);
         mluc-read =
             λ c t h i room.
-            (p .answers string c ∙ Text.mluc-written (c .profile) (c .entry) (c .size) i (length (c .slots)) t h room, p .leaves-so string c ∙ Text.mluc-left (c .profile) (c .entry) (c .size) i (c .slots) t h room);
+            (p .answers string c ∙ Text.mluc-read (c .profile) (c .entry) (c .size) i (length (c .slots)) t h room, p .leaves-so string c ∙ Text.mluc-left (c .profile) (c .entry) (c .size) i (c .slots) t h room);
         mluc-written =
             λ c b n e.
-            subst (ReadLocalized (c .profile) (c .entry) (c .size) n (c .slots)) (sym (p .leaves-so string c)) (Text.mluc-read (c .profile) b (c .entry) (c .size) (c .slots) n (sym (p .answers string c) ∙ e));
-        chad-read = λ c reserved ns n f i e. p .answers (small chad) c ∙ Small·Conforms.chad-written (c .profile) (c .entry) (c .size) reserved ns n f i e;
-        chad-written = λ c ws b v. Small·Conforms.chad-read (c .profile) (c .entry) (c .size) ws b (sym (p .answers (small chad) c) ∙ v);
-        sig-read = small-read sig signatureType signatureTold _ Small·Conforms.sig-written;
-        sig-written = small-written sig signatureType signatureTold _ Small·Conforms.sig-read;
-        date-read = λ c reserved x y rest i e f. p .answers (small date) c ∙ Small·Conforms.date-written (c .profile) (c .entry) (c .size) reserved x y rest i e f;
-        date-written = λ c ws b v. Small·Conforms.date-read (c .profile) (c .entry) (c .size) ws b (sym (p .answers (small date) c) ∙ v);
-        meas-read = small-read meas measurementType measurementTold _ Small·Conforms.meas-written;
-        meas-written = small-written meas measurementType measurementTold _ Small·Conforms.meas-read;
-        view-read = small-read view viewingConditionsType viewTold _ Small·Conforms.view-written;
-        view-written = small-written view viewingConditionsType viewTold _ Small·Conforms.view-read;
-        xyz-read = small-read xyz someXyzType firstTold _ Small·Conforms.xyz-written;
-        xyz-written = small-written xyz someXyzType firstTold _ Small·Conforms.xyz-read;
-        cicp-read = small-read cicp cicpType cicpTold _ Small·Conforms.cicp-written;
-        cicp-written = small-written cicp cicpType cicpTold _ Small·Conforms.cicp-read;
+            subst (ReadLocalized (c .profile) (c .entry) (c .size) n (c .slots)) (sym (p .leaves-so string c)) (Text.mluc-written (c .profile) b (c .entry) (c .size) (c .slots) n (sym (p .answers string c) ∙ e));
+        chad-read = λ c reserved ns n f i e. p .answers (small chad) c ∙ Small·Conforms.chad-read (c .profile) (c .entry) (c .size) reserved ns n f i e;
+        chad-written = λ c ws b v. Small·Conforms.chad-written (c .profile) (c .entry) (c .size) ws b (sym (p .answers (small chad) c) ∙ v);
+        sig-read = small-read sig signatureType signatureTold _ Small·Conforms.sig-read;
+        sig-written = small-written sig signatureType signatureTold _ Small·Conforms.sig-written;
+        date-read = λ c reserved x y rest i e f. p .answers (small date) c ∙ Small·Conforms.date-read (c .profile) (c .entry) (c .size) reserved x y rest i e f;
+        date-written = λ c ws b v. Small·Conforms.date-written (c .profile) (c .entry) (c .size) ws b (sym (p .answers (small date) c) ∙ v);
+        meas-read = small-read meas measurementType measurementTold _ Small·Conforms.meas-read;
+        meas-written = small-written meas measurementType measurementTold _ Small·Conforms.meas-written;
+        view-read = small-read view viewingConditionsType viewTold _ Small·Conforms.view-read;
+        view-written = small-written view viewingConditionsType viewTold _ Small·Conforms.view-written;
+        xyz-read = small-read xyz someXyzType firstTold _ Small·Conforms.xyz-read;
+        xyz-written = small-written xyz someXyzType firstTold _ Small·Conforms.xyz-written;
+        cicp-read = small-read cicp cicpType cicpTold _ Small·Conforms.cicp-read;
+        cicp-written = small-written cicp cicpType cicpTold _ Small·Conforms.cicp-written;
         abm-shown = abm-shown;
         mft-shown = mft-shown;
         abm-in-order = λ walk c x low long f e. shows-clut c (told x .state) (x .clut) (abm-colours walk (c .entries) (c .points) (c .profile) (c .entry) (c .size) (length (c .slots)) low long x f (sym (p .answers (lut walk) c) ∙ e));

@@ -50,14 +50,14 @@ module _ {A : Type 0} (kind : Kind) (least : ℕ) (short other : Answer) (says :
   abbrev reader : List ℕ → ℕ → ℕ → Answer
   reader p entry size = answerTo (foundOf least size (signatureOf kind) p entry size) short other (says (tagAt p entry size))
 
-  plain-written : (Fits : A → Type 0) → ((reserved : ℕ) (x : A) (rest : List ℕ) → Fits x → Says (signatureOf kind) least says (element reserved x ++ rest) (told x)) → WrittenRead reader element told Fits
-  plain-written Fits good p entry size reserved x rest f i e =
+  plain-read : (Fits : A → Type 0) → ((reserved : ℕ) (x : A) (rest : List ℕ) → Fits x → Says (signatureOf kind) least says (element reserved x ++ rest) (told x)) → WrittenRead reader element told Fits
+  plain-read Fits good p entry size reserved x rest f i e =
       let g = good reserved x rest f in
       let l : least ≤ size = omega (arith, ap length e, g .long, length-take size (drop entry p)) in
       reaches least size (signatureOf kind) p entry size short other (says (tagAt p entry size)) l i (ap (λ (t : List ℕ). u32At t 0) e ∙ g .typed) ∙ ap says e ∙ g .given
 
-  plain-read : Silent short → Silent other → (said : List ℕ → A) (rest : List ℕ → List ℕ) → ((t ws : List ℕ) → Bytes t → Says (signatureOf kind) least says t ws → (ws ≡ told (said t)) × (t ≡ element (fourAt t) (said t) ++ rest t)) → ReadWritten reader element told (λ p entry size. Unit)
-  plain-read s o said rest back p entry size ws b _ v =
+  plain-written : Silent short → Silent other → (said : List ℕ → A) (rest : List ℕ → List ℕ) → ((t ws : List ℕ) → Bytes t → Says (signatureOf kind) least says t ws → (ws ≡ told (said t)) × (t ≡ element (fourAt t) (said t) ++ rest t)) → ReadWritten reader element told (λ p entry size. Unit)
+  plain-written s o said rest back p entry size ws b _ v =
       let m = met least size (signatureOf kind) p entry size short other (says (tagAt p entry size)) ws s o v in
       let t : List ℕ = take size (drop entry p) in
       let l : least ≤ length t = omega (arith, m .long, m .fits, length-take size (drop entry p), length-drop entry p) in
@@ -66,14 +66,14 @@ module _ {A : Type 0} (kind : Kind) (least : ℕ) (short other : Answer) (says :
 
 -- ---- `sig `
 
-pub sig-written : WrittenRead sigOf signatureType signatureTold Is32
+pub sig-read : WrittenRead sigOf signatureType signatureTold Is32
 unfolding signatureType signatureOf signatureIn
-sig-written = plain-written Sig 12 (refused 2) absent (λ t. value (signatureIn t)) signatureType signatureTold Is32
+sig-read = plain-read Sig 12 (refused 2) absent (λ t. value (signatureIn t)) signatureType signatureTold Is32
     (λ reserved x rest f. record { typed = refl; long = omega arith; given = ap (λ (z : ℕ). value (z ∷ [])) (read32 x f) })
 
-pub sig-read : ReadWritten sigOf signatureType signatureTold (λ p entry size. Unit)
+pub sig-written : ReadWritten sigOf signatureType signatureTold (λ p entry size. Unit)
 unfolding signatureType signatureOf signatureIn
-sig-read = plain-read Sig 12 (refused 2) absent (λ t. value (signatureIn t)) signatureType signatureTold (no-refusal 2) no-absence (λ t. u32At t 8) (λ t. drop 12 t)
+sig-written = plain-written Sig 12 (refused 2) absent (λ t. value (signatureIn t)) signatureType signatureTold (no-refusal 2) no-absence (λ t. u32At t 8) (λ t. drop 12 t)
     (λ t ws b h. let l = h .long in (sym (fields-are (h .given)), then32 t b 0 (omega arith) (h .typed) (then32 t b 4 (omega arith) refl (then32 t b 8 (omega arith) refl refl))))
 
 -- ---- `cicp`
@@ -81,17 +81,17 @@ sig-read = plain-read Sig 12 (refused 2) absent (λ t. value (signatureIn t)) si
 abbrev Any : {A : Type 0} → A → Type 0
 Any x = Unit
 
-pub cicp-written : WrittenRead cicpOf cicpType cicpTold Any
+pub cicp-read : WrittenRead cicpOf cicpType cicpTold Any
 unfolding cicpType signatureOf codePoints bytesAt
-cicp-written = plain-written KindCicp 12 absent absent (λ t. value (codePoints t)) cicpType cicpTold Any
+cicp-read = plain-read KindCicp 12 absent absent (λ t. value (codePoints t)) cicpType cicpTold Any
     (λ reserved x rest f. record { typed = refl; long = omega arith; given = refl })
 
 abbrev cicpAt : List ℕ → Cicp
 cicpAt t = record { primaries = getD t 8 0; transfer = getD t 9 0; matrix = getD t 10 0; range = getD t 11 0 }
 
-pub cicp-read : ReadWritten cicpOf cicpType cicpTold (λ p entry size. Unit)
+pub cicp-written : ReadWritten cicpOf cicpType cicpTold (λ p entry size. Unit)
 unfolding cicpType signatureOf codePoints bytesAt
-cicp-read = plain-read KindCicp 12 absent absent (λ t. value (codePoints t)) cicpType cicpTold no-absence no-absence cicpAt (λ t. drop 12 t)
+cicp-written = plain-written KindCicp 12 absent absent (λ t. value (codePoints t)) cicpType cicpTold no-absence no-absence cicpAt (λ t. drop 12 t)
     (λ t ws b h.
     let l = h .long in
     (sym (fields-are (h .given)), then32 t b 0 (omega arith) (h .typed) (then32 t b 4 (omega arith) refl (then8 t 8 (omega arith) refl (then8 t 9 (omega arith) refl (then8 t 10 (omega arith) refl (then8 t 11 (omega arith) refl refl)))))))
@@ -113,16 +113,16 @@ triple-whole : (t : List ℕ) → 20 ≤ length t → tripleOf t ≡ value (firs
 unfolding tripleOf
 triple-whole t l = rw (le-ltb (length t) 20 l)
 
-pub xyz-written : WrittenRead xyzOf someXyzType firstTold (λ x. Each32 (firstTold x))
+pub xyz-read : WrittenRead xyzOf someXyzType firstTold (λ x. Each32 (firstTold x))
 unfolding xyzType eachXyz signatureOf firstXyz each32
-xyz-written = plain-written Xyz 12 default default tripleOf someXyzType firstTold (λ x. Each32 (firstTold x))
+xyz-read = plain-read Xyz 12 default default tripleOf someXyzType firstTold (λ x. Each32 (firstTold x))
     (λ reserved x rest f.
     let l : 20 ≤ length (someXyzType reserved x ++ rest) = omega arith in
     record { typed = refl; long = omega arith; given = triple-whole (someXyzType reserved x ++ rest) l ∙ ap value (row-given 0x58595A20 reserved (firstTold x) (eachXyz (x .others) ++ rest) f) })
 
-pub xyz-read : ReadWritten xyzOf someXyzType firstTold (λ p entry size. Unit)
+pub xyz-written : ReadWritten xyzOf someXyzType firstTold (λ p entry size. Unit)
 unfolding xyzType eachXyz signatureOf firstXyz each32 wordsAt
-xyz-read = plain-read Xyz 12 default default tripleOf someXyzType firstTold no-default no-default (λ t. record { first = xyzAt t 8; others = [] }) (λ t. drop 20 t)
+xyz-written = plain-written Xyz 12 default default tripleOf someXyzType firstTold no-default no-default (λ t. record { first = xyzAt t 8; others = [] }) (λ t. drop 20 t)
     (λ t ws b h. let k = triple-behind t ws (h .given) in (sym (k .1), row-is t b _ 3 (k .0) (h .typed)))
 
 -- `meas`
@@ -137,9 +137,9 @@ front p entry size l = sym (take-take 36 size (drop entry p) l)
 long-enough : (p : List ℕ) (entry size : ℕ) (bytes rest : List ℕ) → length bytes ≡ 36 → take size (drop entry p) ≡ bytes ++ rest → 36 ≤ size
 long-enough p entry size bytes rest n e = omega (arith, ap length e, length-append bytes rest, length-take size (drop entry p))
 
-pub meas-written : WrittenRead measOf measurementType measurementTold (λ m. Each32 (measurementTold m))
+pub meas-read : WrittenRead measOf measurementType measurementTold (λ m. Each32 (measurementTold m))
 unfolding measurementType signatureOf measurement each32 windowOf
-meas-written p entry size reserved x rest f i e =
+meas-read p entry size reserved x rest f i e =
     let l : 36 ≤ size = long-enough p entry size (measurementType reserved x) rest refl e in
     let w : take 36 (drop entry p) ≡ measurementType reserved x = front p entry size l ∙ ap (take 36) e in
     let g : measurement (take 36 (drop entry p)) ≡ measurementTold x = ap measurement w ∙ row-given 0x6D656173 reserved (measurementTold x) [] f in
@@ -151,9 +151,9 @@ meas-written p entry size reserved x rest f i e =
 abbrev viewAt : List ℕ → ViewingConditions
 viewAt t = record { illuminant = xyzAt t 8; surround = xyzAt t 20; type = u32At t 32 }
 
-pub view-written : WrittenRead viewOf viewingConditionsType viewTold (λ v. Each32 (viewTold v))
+pub view-read : WrittenRead viewOf viewingConditionsType viewTold (λ v. Each32 (viewTold v))
 unfolding viewingConditionsType signatureOf conditions each32
-view-written p entry size reserved x rest f i e =
+view-read p entry size reserved x rest f i e =
     let l : 36 ≤ size = long-enough p entry size (viewingConditionsType reserved x) rest refl e in
     let w : take 36 (drop entry p) ≡ viewingConditionsType reserved x = front p entry size l ∙ ap (take 36) e in
     let g : conditions (take 36 (drop entry p)) ≡ viewTold x = ap conditions w ∙ row-given 0x76696577 reserved (viewTold x) [] f in
@@ -183,9 +183,9 @@ module _ (p : List ℕ) (b : Bytes p) (entry size signature : ℕ) (l : 36 ≤ s
       let r = row-is first36 (part-bytes p b entry 36) signature 7 (omega (arith, first-length)) e in
       parts ∙ ap (λ (z : List ℕ). z ++ drop 36 whole-tag) (r ∙ ap (λ (z : List ℕ). be32 signature ++ (be32 (fourAt first36) ++ (each32 (wordsAt first36 8 7) ++ z))) none) ∙ simp append-nil
 
-pub meas-read : ReadWritten measOf measurementType measurementTold (λ p entry size. 36 ≤ size)
+pub meas-written : ReadWritten measOf measurementType measurementTold (λ p entry size. 36 ≤ size)
 unfolding measurementType signatureOf measurement each32 wordsAt
-meas-read p entry size ws b l v =
+meas-written p entry size ws b l v =
     let m = met 12 size (signatureOf Meas) p entry size absent absent (windowOf p entry) ws no-absence no-absence v in
     let w = window-behind p entry ws (m .says) in
     let t : List ℕ = take 36 (drop entry p) in
@@ -198,9 +198,9 @@ meas-read p entry size ws b l v =
       is = first-is p b entry size 0x6D656173 l (w .0) (sym (same-type p b entry size 0x6D656173 l (w .0)) ∙ m .typed);
     }
 
-pub view-read : ReadWritten viewOf viewingConditionsType viewTold (λ p entry size. entry + size ≤ length p)
+pub view-written : ReadWritten viewOf viewingConditionsType viewTold (λ p entry size. entry + size ≤ length p)
 unfolding viewingConditionsType signatureOf conditions each32 wordsAt
-view-read p entry size ws b i v =
+view-written p entry size ws b i v =
     let t : List ℕ = take 36 (drop entry p) in
     let m = met 36 36 (signatureOf View) p entry size absent absent (value (conditions t)) ws no-absence no-absence v in
     record {
@@ -220,9 +220,9 @@ nine-laid reserved ns n h =
     let g = row-given 0x73663332 reserved ns [] h in
     record { signature = refl; filled = omega (arith, length32 ns); given = rw (n, append-nil) at g }
 
-pub chad-written : (p : List ℕ) (entry size reserved : ℕ) (ns : List ℕ) → length ns ≡ 9 → Each32 ns → entry + size ≤ length p → take size (drop entry p) ≡ s15Fixed16ArrayType reserved ns → chadOf p entry size ≡ value ns
+pub chad-read : (p : List ℕ) (entry size reserved : ℕ) (ns : List ℕ) → length ns ≡ 9 → Each32 ns → entry + size ≤ length p → take size (drop entry p) ≡ s15Fixed16ArrayType reserved ns → chadOf p entry size ≡ value ns
 unfolding chadOf matrixOf
-chad-written p entry size reserved ns n h i e =
+chad-read p entry size reserved ns n h i e =
     let w = nine-laid reserved ns n h in
     let k : size ≡ 44 = omega (arith, ap length e, w .filled, length-take size (drop entry p), length-drop entry p) in
     let m : entry + 8 ≤ length p = omega arith in
@@ -230,9 +230,9 @@ chad-written p entry size reserved ns n h i e =
     let q : (size - 8) / 4 ≡ 9 = omega arith in
     simp (le-ltb _ _ i, le-ltb _ _ m, le-ltb _ _ l, eq-eqb _ _ q, e, eq-eqb _ _ (w .signature), eq-eqb _ _ (w .filled)) (ap value (w .given))
 
-pub chad-read : (p : List ℕ) (entry size : ℕ) (ws : List ℕ) → Bytes p → chadOf p entry size ≡ value ws → BeginsNine p entry size ws
+pub chad-written : (p : List ℕ) (entry size : ℕ) (ws : List ℕ) → Bytes p → chadOf p entry size ≡ value ws → BeginsNine p entry size ws
 unfolding s15Fixed16ArrayType signatureOf nineNumbers
-chad-read p entry size ws b v =
+chad-written p entry size ws b v =
     let w = chad-behind p entry size ws v in
     let t : List ℕ = take size (drop entry p) in
     let h = w .1 in
@@ -255,23 +255,23 @@ front-told : (p : List ℕ) (d : DateTime) → drop 8 (take 20 p) ≡ dateTimeNu
 unfolding dateBytes bytesAt
 front-told p d e = sym (bytes-drop (take 20 p) 8 0 12) ∙ ap (λ (s : List ℕ). bytesAt s 0 12) e
 
-pub date-written : (p : List ℕ) (entry size reserved : ℕ) (in-tag in-front : DateTime) (rest : List ℕ) → entry + size ≤ length p → take size (drop entry p) ≡ dateTimeType reserved in-tag ++ rest → drop 8 (take 20 p) ≡ dateTimeNumber in-front → dateOf p entry size ≡ value (dateTimeNumber in-front)
+pub date-read : (p : List ℕ) (entry size reserved : ℕ) (in-tag in-front : DateTime) (rest : List ℕ) → entry + size ≤ length p → take size (drop entry p) ≡ dateTimeType reserved in-tag ++ rest → drop 8 (take 20 p) ≡ dateTimeNumber in-front → dateOf p entry size ≡ value (dateTimeNumber in-front)
 unfolding dateTimeType signatureOf
-date-written p entry size reserved in-tag in-front rest i e f =
+date-read p entry size reserved in-tag in-front rest i e f =
     let l : 20 ≤ size = omega (arith, ap length e, length-take size (drop entry p)) in
     reaches 20 size (signatureOf Dtim) p entry size absent absent (value (dateBytes (take 20 p))) l i (ap (λ (t : List ℕ). u32At t 0) e) ∙ ap value (front-told p in-front f)
 
 -- a tag at the front of the profile is answered with its own date
-pub date-written-first : (p : List ℕ) (size reserved : ℕ) (d : DateTime) (rest : List ℕ) → size ≤ length p → take size p ≡ dateTimeType reserved d ++ rest → dateOf p 0 size ≡ value (dateTimeNumber d)
+pub date-read-first : (p : List ℕ) (size reserved : ℕ) (d : DateTime) (rest : List ℕ) → size ≤ length p → take size p ≡ dateTimeType reserved d ++ rest → dateOf p 0 size ≡ value (dateTimeNumber d)
 unfolding dateTimeType
-date-written-first p size reserved d rest i e =
+date-read-first p size reserved d rest i e =
     let l : 20 ≤ size = omega (arith, ap length e, length-take size p) in
     let f : take 20 p ≡ take 20 (take size p) = sym (take-take 20 size p l) in
-    date-written p 0 size reserved d d rest (omega arith) e (ap (drop 8) (f ∙ ap (take 20) e))
+    date-read p 0 size reserved d d rest (omega arith) e (ap (drop 8) (f ∙ ap (take 20) e))
 
-pub date-read : (p : List ℕ) (entry size : ℕ) (ws : List ℕ) → Bytes p → dateOf p entry size ≡ value ws → BeginsDate p entry size ws
+pub date-written : (p : List ℕ) (entry size : ℕ) (ws : List ℕ) → Bytes p → dateOf p entry size ≡ value ws → BeginsDate p entry size ws
 unfolding dateTimeType signatureOf
-date-read p entry size ws b v =
+date-written p entry size ws b v =
     let m = met 20 size (signatureOf Dtim) p entry size absent absent (value (dateBytes (take 20 p))) ws no-absence no-absence v in
     let t : List ℕ = take size (drop entry p) in
     let l : 20 ≤ length t = omega (arith, m .fits, m .long, length-take size (drop entry p), length-drop entry p) in

@@ -502,14 +502,14 @@ module _ (p : List ℕ) (entry size : ℕ) (inside : TagInside p entry size) whe
       ap (λ (a : Answer). leftBy a (wordsIn (recordsIn tag-here .records)) slots) (mluc-taken (length slots) ls h room) ∙ ap (λ (ws : List ℕ). ws ++ drop (length ws) slots) words
 
   -- what the standards write is answered with what was written
-  pub text-written : (words reserved : ℕ) (cs : List ℕ) → Ascii cs → tag-here ≡ textType reserved (terminated cs) → stringOf p entry size words ≡ text (span 8 (length cs))
-  text-written words reserved cs h e = text-taken words (span 8 (length cs)) (text-begins tag-here reserved cs h e)
+  pub text-read : (words reserved : ℕ) (cs : List ℕ) → Ascii cs → tag-here ≡ textType reserved (terminated cs) → stringOf p entry size words ≡ text (span 8 (length cs))
+  text-read words reserved cs h e = text-taken words (span 8 (length cs)) (text-begins tag-here reserved cs h e)
 
-  pub desc-written : (words reserved : ℕ) (d : Description) (rest : List ℕ) → IsDescription d → tag-here ≡ textDescriptionType reserved d ++ rest → stringOf p entry size words ≡ descriptionTold d
-  desc-written words reserved d rest h e = desc-taken words _ _ (desc-begins tag-here reserved d rest h e)
+  pub desc-read : (words reserved : ℕ) (d : Description) (rest : List ℕ) → IsDescription d → tag-here ≡ textDescriptionType reserved d ++ rest → stringOf p entry size words ≡ descriptionTold d
+  desc-read words reserved d rest h e = desc-taken words _ _ (desc-begins tag-here reserved d rest h e)
 
-  pub mluc-written : (words : ℕ) (tag : LocalizedTag tag-here) → Asked tag → length (tag .records) * 4 ≤ words → stringOf p entry size words ≡ mluc (length (tag .records))
-  mluc-written words tag h room = mluc-taken words (tag .records) (mluc-begins tag-here tag h) room
+  pub mluc-read : (words : ℕ) (tag : LocalizedTag tag-here) → Asked tag → length (tag .records) * 4 ≤ words → stringOf p entry size words ≡ mluc (length (tag .records))
+  mluc-read words tag h room = mluc-taken words (tag .records) (mluc-begins tag-here tag h) room
 
   pub mluc-left : (slots : List ℕ) (tag : LocalizedTag tag-here) → Asked tag → length (tag .records) * 4 ≤ length slots → leftOf p entry size slots ≡ recordsTold (tag .records) ++ drop (length (recordsTold (tag .records))) slots
   mluc-left slots tag h room = mluc-taken-left slots (tag .records) (mluc-begins tag-here tag h) room
@@ -534,14 +534,14 @@ module _ (p : List ℕ) (b : Bytes p) (entry size : ℕ) where
       let k = accepted p entry size words w in
       record { inside = k .tag-in-profile; laid = subst (Taken tag-read) e (k .laid); as-tag = found p entry size words w .as-tag }
 
-  pub text-read : (words : ℕ) (s : Span) → stringOf p entry size words ≡ text s → TagInside p entry size × BeginsText tag-read s
-  text-read words s e = let k = answered words (text s) tt e in (k .inside, text-begun tag-read here s (k .laid))
+  pub text-written : (words : ℕ) (s : Span) → stringOf p entry size words ≡ text s → TagInside p entry size × BeginsText tag-read s
+  text-written words s e = let k = answered words (text s) tt e in (k .inside, text-begun tag-read here s (k .laid))
 
-  pub desc-read : (words : ℕ) (s : Span) (u : Unicode) → stringOf p entry size words ≡ desc s u → TagInside p entry size × BeginsDescription tag-read s u
-  desc-read words s u e = let k = answered words (desc s u) tt e in (k .inside, desc-begun tag-read here s u (k .laid))
+  pub desc-written : (words : ℕ) (s : Span) (u : Unicode) → stringOf p entry size words ≡ desc s u → TagInside p entry size × BeginsDescription tag-read s u
+  desc-written words s u e = let k = answered words (desc s u) tt e in (k .inside, desc-begun tag-read here s u (k .laid))
 
-  pub mluc-read : (slots : List ℕ) (n : ℕ) → stringOf p entry size (length slots) ≡ mluc n → ReadLocalized p entry size n slots (leftOf p entry size slots)
-  mluc-read slots n e =
+  pub mluc-written : (slots : List ℕ) (n : ℕ) → stringOf p entry size (length slots) ≡ mluc n → ReadLocalized p entry size n slots (leftOf p entry size slots)
+  mluc-written slots n e =
       let k = answered (length slots) (mluc n) tt e in
       let rs : List Placed = recordsIn tag-read .records in
       let words : wordsIn rs ≡ recordsTold (localizedFrom tag-read 0 rs) = from-words tag-read 0 rs (k .laid .taken .row) in
