@@ -8,7 +8,7 @@ use mathlib.Core.Path.{_≡_, refl, sym, ap, _∙_}
 use mathlib.Core.Bool.{true}
 use mathlib.Core.List.{List, [], _∷_, _++_}
 use lib.ListN.{length, getD, take, drop, List·getD-append, length-append, length-drop, take-append-drop}
-use lib.Seq.{getD-append-add, length-take-le, drop-drop}
+use lib.Seq.{getD-append-add, take-all, length-take-le, drop-drop}
 use borrow.Author.Tests.{lt-ltb}
 use Rattle.icc.specs.Grid.{InGrid, along, inOrder, Coloured}
 use Rattle.clut_meaning.specs.Table.{product, inGrid, pointOf}
@@ -88,11 +88,7 @@ along-same (suc g) f h e = rw (e 0 (omega arith), along-same g (λ x. f (suc x))
 -- numbers are their parts of one length, one behind the other
 parts : (g m : ℕ) (ns : List ℕ) → length ns ≡ g * m → ns ≡ along g (λ x. take m (drop (x * m) ns))
 unfolding along
-parts zero m ns e = none ns (omega arith)
-  where
-    none : (l : List ℕ) → length l ≡ 0 → l ≡ []
-    none [] h = refl
-    none (x ∷ xs) h = absurd (omega arith)
+parts zero m ns e = sym (take-all 0 ns (omega arith))
 parts (suc g) m ns e =
     let rest : List ℕ = drop m ns in
     let behind : length rest ≡ g * m = omega (arith, length-drop m ns) in

@@ -17,7 +17,7 @@ use Rattle.fields.proofs.Numbers.{nameOf}
 use Rattle.curve_meaning.specs.Answer.{Answer as Curve·Answer, answerOf, paper as Curve·paper}
 use Rattle.curve_meaning.specs.Curve.{trcOf, curveOf, tableOf, paraOf, divides, tagOf as Curve·tagOf}
 use Rattle.curve_meaning.specs.Layout.{entryCount, entriesEnd, functionType, parameterCount, parametersEnd, parameters}
-use Rattle.curve_meaning.specs.Shape.{empty, table, para, Seen, is, no, wordsOf}
+use Rattle.curve_meaning.specs.Shape.{empty, table, para, Seen, is, no, recordWords, wordsOf}
 use Rattle.curve_meaning.specs.declared.Walk.{Walk}
 use Rattle.curve_meaning.proofs.Unique.{resultFrom as Curve·resultFrom}
 use Rattle.run.specs.Run.{entryAt, runAt}
@@ -196,7 +196,7 @@ abm-stands walk limit t words =
     by (Clut·is x) k =
         or-refused (runsJudged walk limit t (planOf t)) _
         (both _ _ (run-known walk limit t _ _) (both _ _ (run-known walk limit t _ _) (run-known walk limit t _ _)))
-        (each StandsOf (ltb (words / 10) (recordsNeeded t)) _ _ (λ _. refl) (λ _. refl))
+        (each StandsOf (ltb (words / recordWords) (recordsNeeded t)) _ _ (λ _. refl) (λ _. refl))
     by (Clut·no n) k = ap State.refused k
 
 mft-stands : (points : ℕ) (t : List ℕ) → Stands (mftState (Mft·answerOf t (mftOf points t) .state))

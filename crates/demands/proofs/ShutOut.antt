@@ -1,7 +1,7 @@
 -- The wrong readers break a demand, each by one small call: an empty curve, a table of two entries, an `XYZ ` tag, and the `mAB ` tag of the
 -- worked cases.
 -- Assumes nothing.
-use Prim.Native.Nat.{ℕ, _+_, _*_}
+use Prim.Native.Nat.{ℕ, _+_}
 use native.Mathlib.Omega.{arith}
 use mathlib.Core.Path.{_≡_, refl, ap, _∙_}
 use mathlib.Core.List.{List, [], _∷_, _++_}
@@ -9,20 +9,21 @@ use mathlib.Core.Logic.{inl}
 use lib.ListN.{length, getD, drop, replicate}
 use Rattle.icc.specs.Curves.{sampled, parametric, curveElement, curveType, parametricCurveType, type0, encoded, parameters, Defined}
 use Rattle.icc.specs.Elements.{Stands, aToB, Head, headElement, PlacedCurve, CurvesFrom, no-curves, some-curves, no-matrix, no-clut, LutParts, LutCurves}
-use Rattle.icc.specs.Numbers.{each16, each32, Each32, NextMultipleOf4}
+use Rattle.icc.specs.Numbers.{each16, each32, Each32}
 use Rattle.icc.specs.Small.{eachXyz, xyzType}
 use Rattle.fields.specs.Tag.{signatureOf}
 use Rattle.curve_meaning.specs.Cases.{none, two}
 use Rattle.curve_meaning.specs.Shape.{Shape, empty, table, para, wordsOf}
 use Rattle.curve_meaning.specs.Standard.{Fits, toldOf, Tag}
 use Rattle.curve_meaning.specs.declared.Walk.the-variants.{Crate, Book}
-use Rattle.run.specs.Run.{Each}
+use Rattle.run.specs.Run.{raised, Each}
 use Rattle.run.specs.Standard.{Passes, recordsTold}
 use Rattle.lut_meaning.specs.Answer.{State, mft, abm, absent as State·absent, refused as State·refused, stateFrom, Answer as Lut·Answer}
 use Rattle.lut_meaning.specs.Cases.{tag as threeCurves, slots}
 use Rattle.lut_meaning.specs.Layout.{present, deviceChannels, spaceChannels, aCurves, mCurves, bCurves, recordsNeeded}
 use Rattle.lut_meaning.specs.Standard.{MatrixTaken, ClutFits, told, recordsWritten, PartsTaken, CurvesTaken}
 use Rattle.lut_meaning.specs.declared.LutAnswer.{LutAnswer}
+use Rattle.run.proofs.Conforms.{raised-next}
 use Rattle.lut_meaning.proofs.Conforms.{written-records}
 use Rattle.small_meaning.specs.Standard.{SomeXyz}
 use Rattle.demands.specs.Readers.{lut, Call, Library, Promised, says}
@@ -89,14 +90,10 @@ three =
     record { offset = 56; curve = parametric 0 0 (type0 65536) } ∷
     []
 
--- a multiple of 4 is its own next
-own-next : (k : ℕ) → NextMultipleOf4 (4 * k) (4 * k)
-own-next k = record { quarter = k; multiple = refl; not-below = omega arith; least = λ j h. h }
-
 stand : CurvesFrom threeCurves 32 three
-unfolding CurvesFrom curveElement curveType parametricCurveType encoded parameters each16 each32
+unfolding CurvesFrom raised curveElement curveType parametricCurveType encoded parameters each16 each32
 stand =
-    (refl, record { behind = drop 44 threeCurves; is = refl }, (44, own-next 11, (refl, record { behind = drop 56 threeCurves; is = refl }, (56, own-next 14, (refl, record { behind = []; is = refl }, (72, own-next 18, tt))))))
+    (refl, record { behind = drop 44 threeCurves; is = refl }, (44, raised-next 44, (refl, record { behind = drop 56 threeCurves; is = refl }, (56, raised-next 56, (refl, record { behind = []; is = refl }, (72, raised-next 72, tt))))))
 
 abbrev curves : LutCurves threeCurves head
 curves =

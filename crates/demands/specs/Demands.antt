@@ -236,7 +236,7 @@ pub record Demand2 (l : Library) : Type 0 where
   pub curve-written : (walk : Walk) (c : Call) → Bytes (c .profile) → (ws : List ℕ) (consumed : ℕ) → says l (trc walk) c ≡ Curve·Answer.value ws consumed → Lone walk (c .entries) (c .profile) (c .entry) (c .size) ws consumed
   -- lutAToBType and lutBToAType: the answer, and the records in the slots. The crate walk goes as the standard lays curves out where none but a
   -- run's last is empty (`CurvesTaken`, `PassesBy`); all else is as it is written on either walk
-  pub abm-read : (walk : Walk) (c : Call) (x : LutTag (bytes c)) → InProfile c → 48 ≤ c .size → PartsTaken (x .parts) → CurvesTaken walk (c .entries) (x .curves) → (length (x .curves .a) + length (x .curves .m) + length (x .curves .b)) * 10 ≤ length (c .slots) → let records : List ℕ = recordsWritten (x .curves) in (says l (lut walk) c ≡ told (x .parts)) × (l .leaves (lut walk) c ≡ records ++ drop (length records) (c .slots))
+  pub abm-read : (walk : Walk) (c : Call) (x : LutTag (bytes c)) → InProfile c → 48 ≤ c .size → PartsTaken (x .parts) → CurvesTaken walk (c .entries) (x .curves) → (length (x .curves .a) + length (x .curves .m) + length (x .curves .b)) * recordWords ≤ length (c .slots) → let records : List ℕ = recordsWritten (x .curves) in (says l (lut walk) c ≡ told (x .parts)) × (l .leaves (lut walk) c ≡ records ++ drop (length records) (c .slots))
   pub abm-written : (walk : Walk) (c : Call) → Bytes (c .profile) → (f : Abm) → says l (lut walk) c .state ≡ abm f → (1 ≤ f .size → f .inputs ≤ 16) → InProfile c × PartsAs (bytes c) (says l (lut walk) c)
   pub curves-written : (walk : Walk) (c : Call) → Bytes (c .profile) → (f : Abm) → says l (lut walk) c .state ≡ abm f → (1 ≤ f .size → f .inputs ≤ 16) → PassesBy walk (l .leaves (lut walk) c) (f .a) (f .m) (f .b) → TagAs walk (c .entries) (bytes c) (says l (lut walk) c) (c .slots) (l .leaves (lut walk) c)
   -- the number of records is the channels of the runs that are there
@@ -251,7 +251,7 @@ pub record Demand2 (l : Library) : Type 0 where
   pub text-written : (c : Call) → Bytes (c .profile) → (s : Span) → says l string c ≡ Text·Answer.text s → TagInside c × BeginsText (tag c) s
   pub desc-read : (c : Call) (reserved : ℕ) (d : Description) (rest : List ℕ) → IsDescription d → TagInside c → tag c ≡ textDescriptionType reserved d ++ rest → says l string c ≡ descriptionTold d
   pub desc-written : (c : Call) → Bytes (c .profile) → (s : Span) (u : Unicode) → says l string c ≡ Text·Answer.desc s u → TagInside c × BeginsDescription (tag c) s u
-  pub mluc-read : (c : Call) (t : LocalizedTag (tag c)) → MlucAsked t → TagInside c → length (t .records) * 4 ≤ length (c .slots) → let records : List ℕ = recordsTold (t .records) in (says l string c ≡ Text·Answer.mluc (length (t .records))) × (l .leaves string c ≡ records ++ drop (length records) (c .slots))
+  pub mluc-read : (c : Call) (t : LocalizedTag (tag c)) → MlucAsked t → TagInside c → length (t .records) * textWords ≤ length (c .slots) → let records : List ℕ = recordsTold (t .records) in (says l string c ≡ Text·Answer.mluc (length (t .records))) × (l .leaves string c ≡ records ++ drop (length records) (c .slots))
   pub mluc-written : (c : Call) → Bytes (c .profile) → (n : ℕ) → says l string c ≡ Text·Answer.mluc n → ReadLocalized (c .profile) (c .entry) (c .size) n (c .slots) (l .leaves string c)
   -- the types of the small readers; of an XYZType the first number is answered, and of a date the one at the front of the profile
   pub chad-read : (c : Call) (reserved : ℕ) (ns : List ℕ) → length ns ≡ 9 → Each32 ns → InProfile c → bytes c ≡ s15Fixed16ArrayType reserved ns → says l (small chad) c ≡ Small·Answer.value ns

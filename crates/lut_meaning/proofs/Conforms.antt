@@ -9,7 +9,8 @@ use mathlib.Core.Bool.{Bool, true, false, cond, _&&_, _||_, and-false}
 use mathlib.Core.List.{List, [], _∷_, _++_, map, append-assoc}
 use mathlib.Core.Logic.{_⊎_, inl, inr}
 use lib.Dec.{ltb, eqb}
-use lib.ListN.{length, take, drop, replicate, length-append, length-take, length-drop}
+use lib.ListN.{length, take, drop, replicate, length-map, length-append, length-take, length-drop}
+use lib.Seq.{take-all}
 use borrow.Author.Tests.{eq-eqb, ne-eqb, le-ltb, eqb-true, eqb-false, ltb-false}
 use Rattle.icc.specs.Elements.{Stands, Direction, aToB, bToA, signature, Head, headElement, curvesA, curvesMB, PlacedCurve, CurvesFrom, Bias, matrixElement, precision, entryBytes, clutElement, CurveSet, no-curves, some-curves, MatrixAt, no-matrix, the-matrix, ClutAt, no-clut, the-clut, LutParts, LutCurves}
 use Rattle.icc.specs.Numbers.{be32, each32, Is32, Each32, Bytes}
@@ -30,7 +31,7 @@ use Rattle.curve_meaning.specs.declared.Walk.the-variants.{Crate, Book}
 use Rattle.run.specs.Run.{Placed, whole, recordsOf, runAt}
 use Rattle.run.specs.Standard.{seenOf, Passes, Standing, NoneEmpty}
 use Rattle.run.proofs.Runs.{run-count}
-use Rattle.run.proofs.Conforms.{written-run, run-written, map-length, records-are, passes-by}
+use Rattle.run.proofs.Conforms.{written-run, run-written, records-are, passes-by}
 use Rattle.run.proofs.Writing.{records-append, records-length}
 use Rattle.lut_meaning.specs.Abm.{noTable, tableOf, valueFrom, recordedOf, judgedOf, abmOf}
 use Rattle.mft_meaning.specs.Answer.{Fields, State, answerOf}
@@ -243,11 +244,11 @@ module _ (t : List ℕ) (l : LutParts t) (f : PartsTaken l) where
         rw (run-a, run-m, run-b) (records-append (map seenOf (c .a) ++ map seenOf (c .m)) (map seenOf (c .b)) ∙ rw (records-append (map seenOf (c .a)) (map seenOf (c .m)), records-are (c .a), records-are (c .m), records-are (c .b)))
 
     -- and the answer is as told, if the slots suffice
-    pub written-read : (words : ℕ) → (length (c .a) + length (c .m) + length (c .b)) * 10 ≤ words → abmOf walk limit t words ≡ told l
+    pub written-read : (words : ℕ) → (length (c .a) + length (c .m) + length (c .b)) * recordWords ≤ words → abmOf walk limit t words ≡ told l
     unfolding abmOf judgedOf recordedOf runsJudged ended recordsNeeded
     written-read words room =
         let few : ltb 4 (inputs t) && ltb 4 (outputs t) ≡ false = rw (seen .i-is, seen .o-is) (few-is (h .inputChannels) (h .outputChannels) (f .few-channels)) in
-        let enough : recordsNeeded t ≤ words / 10 = omega (arith, a-count, m-count, b-count) in
+        let enough : recordsNeeded t ≤ words / recordWords = omega (arith, a-count, m-count, b-count) in
         rw (few, matrix-good (seen .matrix-is) (l .matrix) (f .matrix-fits), table-read, run-a, run-m, run-b, le-ltb (words / recordWords) (recordsNeeded t) enough) value-told
 
 -- ---- read, then written
@@ -259,17 +260,13 @@ few-back i o = by (ltb 4 i) refl
     by true e h = inr (ltb-false 4 o h)
     by false e h = inl (ltb-false 4 i e)
 
-none-left : (cs : List PlacedCurve) → length cs ≡ 0 → cs ≡ []
-none-left [] e = refl
-none-left (c ∷ cs) e = absurd (omega arith)
-
 module _ (t : List ℕ) (b : Bytes t) where
   set-of : (offset channels : ℕ) (cs : List PlacedCurve) → CurvesFrom t offset cs → length cs ≡ present offset channels → CurveSet t offset channels cs
   unfolding present
   set-of offset channels cs s = by (eqb offset 0) refl
     where
       by : (x : Bool) → eqb offset 0 ≡ x → length cs ≡ cond x 0 channels → CurveSet t offset channels cs
-      by true e n = no-curves (eqb-true offset 0 e) (none-left cs n)
+      by true e n = no-curves (eqb-true offset 0 e) (sym (take-all 0 cs (omega (arith, n))))
       by false e n = some-curves (eqb-false offset 0 e) n s
 
   -- four bytes on, and twelve numbers from there on
@@ -371,7 +368,7 @@ module _ (t : List ℕ) (b : Bytes t) where
     -- a run that is whole, and whose curves the walk steps over, is a set of curves
     module _ (a-passes : Passes walk (runA walk limit t (planOf t) .curves)) (m-passes : Passes walk (runM walk limit t (planOf t) .curves)) (b-passes : Passes walk (runB walk limit t (planOf t) .curves)) where
       counted : (at n : ℕ) → runAt walk limit t at n .end ≡ whole → (r : Standing limit t at (runAt walk limit t at n .curves)) → length (r .curves) ≡ n
-      counted at n q r = sym (map-length (r .curves)) ∙ ap length (sym (r .seen)) ∙ run-count walk limit t at n q
+      counted at n q r = sym (length-map (r .curves) seenOf) ∙ ap length (sym (r .seen)) ∙ run-count walk limit t at n q
 
       set-from : (at n channels : ℕ) → runAt walk limit t at n .end ≡ whole → (r : Standing limit t at (runAt walk limit t at n .curves)) → n ≡ present at channels → CurveSet t at channels (r .curves)
       set-from at n channels q r c = set-of at channels (r .curves) (r .stand) (counted at n q r ∙ c)
@@ -434,7 +431,7 @@ module _ (limit points : ℕ) (p : List ℕ) (entry size words : ℕ) (inside : 
         by aToB = refl
         by bToA = refl
 
-    module _ (l : LutParts tagBytes) (f : PartsTaken l) (c : LutCurves tagBytes (l .head)) (k : CurvesTaken walk limit c) (room : (length (c .a) + length (c .m) + length (c .b)) * 10 ≤ words) where
+    module _ (l : LutParts tagBytes) (f : PartsTaken l) (c : LutCurves tagBytes (l .head)) (k : CurvesTaken walk limit c) (room : (length (c .a) + length (c .m) + length (c .b)) * recordWords ≤ words) where
       -- what the standard writes, anywhere in a profile, is answered with what was written
       pub profile-read : lutOf walk limit points p entry size words ≡ told l
       unfolding headElement
@@ -522,8 +519,8 @@ three-passes Crate a m b rest (ha, hm, hb) =
     let first : recordsOf (a ++ m ++ b) ++ rest ≡ [] ++ (ra ++ (rm ++ (rb ++ rest))) = all ∙ simp append-assoc in
     let second : recordsOf (a ++ m ++ b) ++ rest ≡ ra ++ (rm ++ (rb ++ rest)) = all ∙ simp append-assoc in
     let third : recordsOf (a ++ m ++ b) ++ rest ≡ (ra ++ rm) ++ (rb ++ rest) = all ∙ simp append-assoc in
-    let la : length ra ≡ length a * 10 = records-length a in
-    let lm : length (ra ++ rm) ≡ (length a + length m) * 10 = length-append ra rm ∙ omega (arith, la, records-length m) in
+    let la : length ra ≡ length a * recordWords = records-length a in
+    let lm : length (ra ++ rm) ≡ (length a + length m) * recordWords = length-append ra rm ∙ omega (arith, la, records-length m) in
     (passes-by [] 0 refl a (rm ++ (rb ++ rest)) (subst (λ (x : List ℕ). NoneEmpty x 0 (length a)) first ha), passes-by ra (length a) la m (rb ++ rest) (subst (λ (x : List ℕ). NoneEmpty x (length a) (length m)) second hm), passes-by (ra ++ rm) (length a + length m) lm b rest (subst (λ (x : List ℕ). NoneEmpty x (length a + length m) (length b)) third hb))
 
 -- the number of records, on every accepted call

@@ -119,6 +119,10 @@ module _ (limit reserved reserved2 : ℕ) (l : Lut) (rest : List ℕ) (k : Taken
       } in
       answered limit t 1 48 256 256 l s z (omega arith) (omega arith) k
 
+-- three tables one behind the other
+pub apart : (a b c rest : List ℕ) → a ++ b ++ c ++ rest ≡ a ++ (b ++ (c ++ rest))
+apart a b c rest = simp append-assoc
+
 -- ---- read, then written
 
 module _ (limit : ℕ) (t : List ℕ) (b : Bytes t) where
@@ -163,10 +167,6 @@ module _ (limit : ℕ) (t : List ℕ) (b : Bytes t) where
   head type e l h =
       then32 t b 0 (omega arith) e (then32 t b 4 (omega arith) refl (then8 t 8 (omega arith) refl (then8 t 9 (omega arith) refl (then8 t 10 (omega arith) refl (then8 t 11 (omega arith) refl (row32 t b 9 12 (omega arith) refl h))))))
 
-  -- three tables one behind the other
-  three : (a c z rest : List ℕ) → a ++ (c ++ (z ++ rest)) ≡ a ++ c ++ z ++ rest
-  three a c z rest = simp append-assoc
-
   begins16 : (f : Fields) → u32At t 0 ≡ signatureOf Mft2 → LaidOut t → Asked limit t → f ≡ fieldsOf t → Begins16 limit t f (matrixOf t)
   unfolding lut16Type isWide entrySize tablesStart entriesAt signatureOf each32 wordsAt colourTable
   begins16 f e h w q =
@@ -209,7 +209,7 @@ module _ (limit : ℕ) (t : List ℕ) (b : Bytes t) where
         entries-fit = halves-below t b (52 + 2 * u) v;
         told-is = q ∙ told-fields limit t 2 52 n m (lutOf a c z) s sized;
         matrix-is = refl;
-        is = head 0x6D667432 e (omega arith) (then16 t b 48 (omega arith) refl (then16 t b 50 (omega arith) refl (row16 t b u 52 (omega arith) refl (row16 t b v (52 + 2 * u) (omega arith) refl (row16 t b x (52 + 2 * u + 2 * v) end refl refl)) ∙ three (each16 a) (each16 c) (each16 z) r)));
+        is = head 0x6D667432 e (omega arith) (then16 t b 48 (omega arith) refl (then16 t b 50 (omega arith) refl (row16 t b u 52 (omega arith) refl (row16 t b v (52 + 2 * u) (omega arith) refl (row16 t b x (52 + 2 * u + 2 * v) end refl refl)) ∙ sym (apart (each16 a) (each16 c) (each16 z) r))));
       }
 
   part-length : (i n : ℕ) → i + n ≤ length t → length (take n (drop i t)) ≡ n
@@ -253,7 +253,7 @@ module _ (limit : ℕ) (t : List ℕ) (b : Bytes t) where
         taken = taken a c z w;
         told-is = q ∙ told-fields limit t 1 48 256 256 (lutOf a c z) s sized;
         matrix-is = refl;
-        is = head 0x6D667431 e (omega arith) (row8 t u 48 (row8 t v (48 + u) (row8 t x (48 + u + v) refl)) ∙ three a c z r);
+        is = head 0x6D667431 e (omega arith) (row8 t u 48 (row8 t v (48 + u) (row8 t x (48 + u + v) refl)) ∙ sym (apart a c z r));
       }
 
   -- what is accepted is what the standard writes

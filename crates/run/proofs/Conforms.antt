@@ -2,18 +2,18 @@
 -- is empty: those that stand one behind the other in a tag, each at the next multiple of 4, are the run; and a run's curves are what the
 -- standard writes there.
 -- Assumes nothing.
-use Prim.Native.Nat.{ℕ, suc, _+_, _*_, _/_, _≤_}
+use Prim.Native.Nat.{ℕ, _+_, _*_, _/_, _≤_}
 use native.Mathlib.Omega.{arith}
 use mathlib.Core.Path.{_≡_, refl, sym, ap, _∙_}
 use mathlib.Core.List.{List, [], _∷_, _++_, map, append-assoc}
-use lib.ListN.{length, getD, drop, length-append, length-drop}
+use lib.ListN.{length, getD, drop, length-map, length-append, length-drop}
 use lib.Seq.{getD-at}
 use borrow.Author.Tests.{le-ltb}
 use Rattle.icc.specs.Curves.{Curve, curveElement}
 use Rattle.icc.specs.Elements.{Stands, PlacedCurve, CurvesFrom}
 use Rattle.icc.specs.Numbers.{Bytes, NextMultipleOf4}
 use Rattle.fields.proofs.Written.{rest-bytes}
-use Rattle.curve_meaning.specs.Shape.{Shape, is, empty, table, para, sizeOf, stepOf, wordsOf}
+use Rattle.curve_meaning.specs.Shape.{Shape, is, empty, table, para, sizeOf, stepOf, recordWords, wordsOf}
 use Rattle.curve_meaning.specs.Standard.{shapeOf, Fits}
 use Rattle.curve_meaning.specs.declared.Walk.{Walk}
 use Rattle.curve_meaning.specs.declared.Walk.the-variants.{Crate, Book}
@@ -65,10 +65,6 @@ rest-passes Crate c d cs (_, h) = h
 
 -- ---- written, then read
 
-pub map-length : (cs : List PlacedCurve) → length (map seenOf cs) ≡ length cs
-map-length [] = refl
-map-length (c ∷ cs) = ap suc (map-length cs)
-
 -- the records of such curves
 pub records-are : (cs : List PlacedCurve) → recordsOf (map seenOf cs) ≡ recordsTold cs
 unfolding recordsOf recordsTold
@@ -86,7 +82,7 @@ module _ (walk : Walk) (limit : ℕ) (t : List ℕ) where
       (e, entry-written limit t at (c .curve) s f, rw q at (reads next (d ∷ cs) rest fs (rest-passes walk (seenOf c) (seenOf d) (map seenOf cs) p)))
 
   pub written-run : (at : ℕ) (cs : List PlacedCurve) → CurvesFrom t at cs → AllFit limit cs → Passes walk (map seenOf cs) → runAt walk limit t at (length cs) ≡ record { curves = map seenOf cs; end = whole }
-  written-run at cs h f p = ap (runAt walk limit t at) (sym (map-length cs)) ∙ reads-run walk limit t at (map seenOf cs) (reads at cs h f p)
+  written-run at cs h f p = ap (runAt walk limit t at) (sym (length-map cs seenOf)) ∙ reads-run walk limit t at (map seenOf cs) (reads at cs h f p)
 
   -- ---- read, then written
 
@@ -124,14 +120,14 @@ module _ (walk : Walk) (limit : ℕ) (t : List ℕ) where
 -- ---- by the records in the slots
 
 -- an empty curve's record behind the words of i others is of kind 0
-kind-0 : (front : List ℕ) (i : ℕ) → length front ≡ i * 10 → (c : Placed) (rest : List ℕ) → c .shape ≡ empty → getD (front ++ (wordsOf (c .at + 12) (c .shape) ++ rest)) ((i + 0) * 10) 0 ≡ 0
+kind-0 : (front : List ℕ) (i : ℕ) → length front ≡ i * recordWords → (c : Placed) (rest : List ℕ) → c .shape ≡ empty → getD (front ++ (wordsOf (c .at + 12) (c .shape) ++ rest)) ((i + 0) * recordWords) 0 ≡ 0
 unfolding wordsOf
 kind-0 front i n c rest e =
-    let m : length front ≡ (i + 0) * 10 = omega arith in
-    rw e (getD-at front _ _ 0 ((i + 0) * 10) m)
+    let m : length front ≡ (i + 0) * recordWords = omega arith in
+    rw e (getD-at front _ _ 0 ((i + 0) * recordWords) m)
 
 -- where none but the last is, the crate walk steps over each
-pub passes-by : (front : List ℕ) (i : ℕ) → length front ≡ i * 10 → (cs : List Placed) (rest : List ℕ) → NoneEmpty (front ++ (recordsOf cs ++ rest)) i (length cs) → Passes Crate cs
+pub passes-by : (front : List ℕ) (i : ℕ) → length front ≡ i * recordWords → (cs : List Placed) (rest : List ℕ) → NoneEmpty (front ++ (recordsOf cs ++ rest)) i (length cs) → Passes Crate cs
 unfolding Passes recordsOf
 passes-by front i n [] rest h = tt
 passes-by front i n (c ∷ []) rest h = tt
@@ -139,6 +135,6 @@ passes-by front i n (c ∷ d ∷ cs) rest h =
     let w : List ℕ = wordsOf (c .at + 12) (c .shape) in
     let behind : List ℕ = recordsOf (d ∷ cs) ++ rest in
     let all : front ++ (w ++ recordsOf (d ∷ cs) ++ rest) ≡ front ++ (w ++ behind) = ap (λ (x : List ℕ). front ++ x) (append-assoc w (recordsOf (d ∷ cs)) rest) in
-    let n' : length (front ++ w) ≡ (i + 1) * 10 = length-append front w ∙ omega (arith, words-length (c .at + 12) (c .shape)) in
-    let next : NoneEmpty (front ++ w ++ behind) (i + 1) (length (d ∷ cs)) = λ k l z. h (k + 1) (omega arith) (ap (λ (x : List ℕ). getD x ((i + (k + 1)) * 10) 0) (all ∙ sym (append-assoc front w behind)) ∙ ap (λ (j : ℕ). getD (front ++ w ++ behind) (j * 10) 0) (omega arith) ∙ z) in
-    (λ e. h 0 (omega arith) (ap (λ (x : List ℕ). getD x ((i + 0) * 10) 0) all ∙ kind-0 front i n c behind e), passes-by (front ++ w) (i + 1) n' (d ∷ cs) rest next)
+    let n' : length (front ++ w) ≡ (i + 1) * recordWords = length-append front w ∙ omega (arith, words-length (c .at + 12) (c .shape)) in
+    let next : NoneEmpty (front ++ w ++ behind) (i + 1) (length (d ∷ cs)) = λ k l z. h (k + 1) (omega arith) (ap (λ (x : List ℕ). getD x ((i + (k + 1)) * recordWords) 0) (all ∙ sym (append-assoc front w behind)) ∙ ap (λ (j : ℕ). getD (front ++ w ++ behind) (j * recordWords) 0) (omega arith) ∙ z) in
+    (λ e. h 0 (omega arith) (ap (λ (x : List ℕ). getD x ((i + 0) * recordWords) 0) all ∙ kind-0 front i n c behind e), passes-by (front ++ w) (i + 1) n' (d ∷ cs) rest next)

@@ -21,6 +21,7 @@ use Rattle.clut_meaning.proofs.Grid.{below, point-below, power-is}
 use Rattle.clut_meaning.proofs.Order.{in-grid, order-at}
 use Rattle.curve_meaning.specs.declared.Walk.{Walk}
 use Rattle.mft_meaning.specs.Standard.{told16, told8}
+use Rattle.mft_meaning.proofs.Conforms.{apart}
 use Rattle.lut_meaning.specs.Answer.{Abm, abm, Answer, mft}
 use Rattle.lut_meaning.specs.Lut.{lutOf}
 use Rattle.lut_meaning.specs.Standard.{startTold, bytesTold, sizeTold, gridTold, ClutFits, told, PartsTaken}
@@ -50,10 +51,6 @@ module _ (t : List ℕ) (shown : List ℕ → ℕ → Told) (grid : List ℕ) (o
       let k : ℕ = numberOf table point channel in
       let low : k < length (numbers e) = omega (arith, n, below (pointOf grid point) (product grid) outputs channel (point-below grid point (in-grid grid point i)) l) in
       h point channel i l ∙ ap value (stored t start e rest d f k low ∙ ap (λ (ns : List ℕ). getD ns k 0) (c .written) ∙ order-at grid outputs colour (c .each-output) point i channel l)
-
--- three tables one behind the other
-apart : (a b c rest : List ℕ) → a ++ b ++ c ++ rest ≡ a ++ (b ++ (c ++ rest))
-apart a b c rest = simp append-assoc
 
 -- ---- the CLUT element
 

@@ -22,7 +22,7 @@ use Rattle.fields.specs.Tag.{signatureOf}
 use Rattle.text_meaning.specs.Answer.{Answer, text, desc, mluc, Span, span, Unicode, leftBy}
 use Rattle.text_meaning.specs.Cut.{byteOf, unitOf}
 use Rattle.text_meaning.specs.Layout.{unicodeLanguage, unicodeCount, unicodeStart}
-use Rattle.text_meaning.specs.Mluc.{Localized as Placed, Ran, whole, even, recordsAsked, recordsIn, wordsIn}
+use Rattle.text_meaning.specs.Mluc.{Localized as Placed, Ran, whole, even, recordsAsked, recordsIn, recordWords, wordsIn}
 use Rattle.text_meaning.specs.Standard.{TagInside, tagIn, NoZeroLast, BeginsText, unicodeTold, descriptionTold, CutShort, no-count, no-units, UnicodeTaken, none, some, short, BeginsDescription, AllFit, Asked, recordsTold, StringTaken, StringsTaken, BeginsLocalized, ReadLocalized}
 use Rattle.text_meaning.specs.Text.{byType, stringOf, leftOf}
 use Rattle.text_meaning.proofs.Cutting.{string-cut, cut-string}
@@ -489,14 +489,14 @@ module _ (p : List ℕ) (entry size : ℕ) (inside : TagInside p entry size) whe
   mluc-found : (ls : List Localized) → BeginsLocalized tag-here ls → recordsIn tag-here ≡ record { records = map placed ls; end = whole }
   mluc-found ls h = records-read tag-here (map placed ls) (mluc-laid tag-here ls h)
 
-  pub mluc-taken : (words : ℕ) (ls : List Localized) → BeginsLocalized tag-here ls → length ls * 4 ≤ words → stringOf p entry size words ≡ mluc (length ls)
+  pub mluc-taken : (words : ℕ) (ls : List Localized) → BeginsLocalized tag-here ls → length ls * recordWords ≤ words → stringOf p entry size words ≡ mluc (length ls)
   unfolding localizedHead
   mluc-taken words ls h room =
       let n : length (map placed ls) ≡ length ls = placed-length ls in
       let long : 8 ≤ length tag-here = omega (arith, ap length (h .begins .is)) in
       in-profile p entry size words inside long ∙ mluc-accepted tag-here (map placed ls) words (mluc-laid tag-here ls h) (omega (arith, n)) ∙ ap mluc n
 
-  pub mluc-taken-left : (slots : List ℕ) (ls : List Localized) → BeginsLocalized tag-here ls → length ls * 4 ≤ length slots → leftOf p entry size slots ≡ recordsTold ls ++ drop (length (recordsTold ls)) slots
+  pub mluc-taken-left : (slots : List ℕ) (ls : List Localized) → BeginsLocalized tag-here ls → length ls * recordWords ≤ length slots → leftOf p entry size slots ≡ recordsTold ls ++ drop (length (recordsTold ls)) slots
   mluc-taken-left slots ls h room =
       let words : wordsIn (recordsIn tag-here .records) ≡ recordsTold ls = ap (λ (r : Ran). wordsIn (r .records)) (mluc-found ls h) ∙ words-told ls in
       ap (λ (a : Answer). leftBy a (wordsIn (recordsIn tag-here .records)) slots) (mluc-taken (length slots) ls h room) ∙ ap (λ (ws : List ℕ). ws ++ drop (length ws) slots) words
@@ -508,10 +508,10 @@ module _ (p : List ℕ) (entry size : ℕ) (inside : TagInside p entry size) whe
   pub desc-read : (words reserved : ℕ) (d : Description) (rest : List ℕ) → IsDescription d → tag-here ≡ textDescriptionType reserved d ++ rest → stringOf p entry size words ≡ descriptionTold d
   desc-read words reserved d rest h e = desc-taken words _ _ (desc-begins tag-here reserved d rest h e)
 
-  pub mluc-read : (words : ℕ) (tag : LocalizedTag tag-here) → Asked tag → length (tag .records) * 4 ≤ words → stringOf p entry size words ≡ mluc (length (tag .records))
+  pub mluc-read : (words : ℕ) (tag : LocalizedTag tag-here) → Asked tag → length (tag .records) * recordWords ≤ words → stringOf p entry size words ≡ mluc (length (tag .records))
   mluc-read words tag h room = mluc-taken words (tag .records) (mluc-begins tag-here tag h) room
 
-  pub mluc-left : (slots : List ℕ) (tag : LocalizedTag tag-here) → Asked tag → length (tag .records) * 4 ≤ length slots → leftOf p entry size slots ≡ recordsTold (tag .records) ++ drop (length (recordsTold (tag .records))) slots
+  pub mluc-left : (slots : List ℕ) (tag : LocalizedTag tag-here) → Asked tag → length (tag .records) * recordWords ≤ length slots → leftOf p entry size slots ≡ recordsTold (tag .records) ++ drop (length (recordsTold (tag .records))) slots
   mluc-left slots tag h room = mluc-taken-left slots (tag .records) (mluc-begins tag-here tag h) room
 
 -- ---- and back

@@ -11,6 +11,7 @@ use Rattle.icc.specs.Elements.{Stands}
 use Rattle.icc.specs.Numbers.{be32, each16, Is16, Is32, Each16}
 use Rattle.icc.specs.Text.{textType, asciiPart, unicodePart, UnicodeString, no-string, characters, Description, Localized, localizedHead, LocalizedTag}
 use Rattle.text_meaning.specs.Answer.{Answer, desc, Span, span, Unicode}
+use Rattle.text_meaning.specs.Mluc.{recordWords}
 
 -- the tag in its profile: a size of 0 counts as 12
 abbrev pub bytesIn : ℕ → ℕ
@@ -128,5 +129,5 @@ pub record ReadLocalized (profile : List ℕ) (entry size n : ℕ) (slots left :
   pub records : List Localized
   pub begins : BeginsLocalized (tagIn profile entry size) records
   pub count-is : n ≡ length records
-  pub room : length records * 4 ≤ length slots
+  pub room : length records * recordWords ≤ length slots
   pub left-is : left ≡ recordsTold records ++ drop (length (recordsTold records)) slots
