@@ -1,7 +1,7 @@
 // `answers`: reads jobs from standard input until it ends, and writes a line for each. By it the readers are compared with the Rust's.
 // A job that is cut short, names no reader or passes a bound ends the program. The buffers are made once, for all jobs.
-use jobs::StreamHead;
-use jobs::StreamJob;
+use answers_jobs::StreamHead;
+use answers_jobs::StreamJob;
 
 // Reads the rest of a job and answers it, and says whether it was a good one.
 fn run_job(
@@ -12,7 +12,7 @@ fn run_job(
     line: &mut [u8],
 ) -> bool {
     let length = job.length as usize;
-    let more = jobs::bytes_behind(job.reader);
+    let more = answers_jobs::bytes_behind(job.reader);
     let lent = job.words as usize;
     if profile.len() < length {
         return false;
@@ -29,7 +29,7 @@ fn run_job(
     if io::read_full(0, &mut behind[..more]) < more {
         return false;
     }
-    let end = replies::answer_job(
+    let end = answers_lines::answer_job(
         &profile[..length],
         job,
         &behind[..more],
@@ -63,7 +63,7 @@ fn run_next(
     if n == 0 {
         return false;
     }
-    let got = jobs::read_head(&head[..n]);
+    let got = answers_jobs::read_head(&head[..n]);
     let StreamHead::Job(job) = got else {
         return bad_job();
     };

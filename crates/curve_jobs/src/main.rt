@@ -15,7 +15,7 @@ fn run_next(job: &mut [u8]) -> bool {
         return false;
     }
     let mut line = [0u8; 256];
-    let end = curve_text::curve_line(&job[..length], &mut line);
+    let end = curve_line_text::curve_line(&job[..length], &mut line);
     if end <= line.len() {
         io::write_all(1, &line[..end]);
     }

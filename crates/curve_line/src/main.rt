@@ -4,7 +4,7 @@ fn main() {
     let mut job = [0u8; 65_537];
     let n = io::read_full(0, &mut job);
     let mut line = [0u8; 256];
-    let end = curve_text::curve_line(&job[..n], &mut line);
+    let end = curve_line_text::curve_line(&job[..n], &mut line);
     if end <= line.len() {
         io::write_all(1, &line[..end]);
     }

@@ -3,16 +3,16 @@
 use mathlib.Core.Path.{refl}
 use Rattle.fields.specs.Bytes.{bytesAt, wordsAt}
 use Rattle.fields.specs.Tag.{signatureOf}
-use Rattle.clut_meaning.specs.Cases.{numbersIn}
-use Rattle.clut_meaning.specs.Clut.{clutOf, shapeOf, some, partials}
-use Rattle.clut_meaning.specs.Table.{product, pointOf}
+use Rattle.lut_clut_meaning.specs.Cases.{numbersIn}
+use Rattle.lut_clut_meaning.specs.Clut.{clutOf, shapeOf, some, partials}
+use Rattle.lut_clut_meaning.specs.Table.{product, pointOf}
 use Rattle.curve_meaning.specs.Answer.{answerOf}
 use Rattle.curve_meaning.specs.Cases.{signedParameters}
 use Rattle.curve_meaning.specs.Curve.{trcOf, curveOf, tableOf as curvOf, paraOf, divides}
 use Rattle.curve_meaning.specs.Layout.{parameterCount}
 use Rattle.curve_meaning.specs.Shape.{sizeOf, stepOf, wordsOf}
-use Rattle.mft_meaning.specs.Layout.{isWide, isMft}
-use Rattle.run.specs.Run.{Each, raised, entryAt, runAt, recordsOf}
+use Rattle.lut_mft_meaning.specs.Layout.{isWide, isMft}
+use Rattle.lut_run_meaning.specs.Run.{Each, raised, entryAt, runAt, recordsOf}
 use Rattle.lut_meaning.specs.Abm.{tableOf, valueFrom, recordedOf, judgedOf, abmOf}
 use Rattle.lut_meaning.specs.Layout.{present, deviceChannels, spaceChannels, aCurves, mCurves, bCurves, planOf, recordsNeeded, gridOf, matrixOf, biasOf}
 use Rattle.lut_meaning.specs.Lut.{byType, lutOf}

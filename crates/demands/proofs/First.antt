@@ -7,14 +7,14 @@ use mathlib.Core.Path.{_≡_, refl, sym, ap, subst, _∙_}
 use mathlib.Core.List.{List}
 use mathlib.Core.Logic.{_⊎_, inl, inr}
 use lib.ListN.{length, drop}
-use Rattle.clut_meaning.specs.Table.{Table, lengthOf}
+use Rattle.lut_clut_meaning.specs.Table.{Table, lengthOf}
 use Rattle.curve_meaning.specs.Answer.{Answer as Curve·Answer}
 use Rattle.curve_meaning.specs.Shape.{Shape, empty, sizeOf, wordsOf}
 use Rattle.curve_meaning.specs.declared.Walk.{Walk}
 use Rattle.curve_meaning.proofs.Inside.{accepted-inside}
-use Rattle.run.specs.Run.{Placed, placed, Stands, recordsOf, dataEnd}
-use Rattle.run.proofs.Records.{words-end, record-at, each-at}
-use Rattle.mft_meaning.specs.Answer.{Fields}
+use Rattle.lut_run_meaning.specs.Run.{Placed, placed, Stands, recordsOf, dataEnd}
+use Rattle.lut_run_meaning.proofs.Records.{words-end, record-at, each-at}
+use Rattle.lut_mft_meaning.specs.Answer.{Fields}
 use Rattle.lut_meaning.specs.Answer.{mft, abm, Abm, Answer as Lut·Answer}
 use Rattle.lut_meaning.specs.Layout.{planOf}
 use Rattle.lut_meaning.specs.Parts.{curvesOf}

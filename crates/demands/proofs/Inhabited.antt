@@ -20,13 +20,13 @@ use Rattle.curve_meaning.specs.Layout.{entryCount, entriesEnd, functionType, pa
 use Rattle.curve_meaning.specs.Shape.{empty, table, para, Seen, is, no, recordWords, wordsOf}
 use Rattle.curve_meaning.specs.declared.Walk.{Walk}
 use Rattle.curve_meaning.proofs.Unique.{resultFrom as Curve·resultFrom}
-use Rattle.run.specs.Run.{entryAt, runAt}
-use Rattle.run.proofs.Runs.{run-induct}
-use Rattle.clut_meaning.specs.Clut.{Seen as Clut·Seen, is as Clut·is, no as Clut·no, clutOf, shapeOf, gridAt, tableAt, overflows, mostEntries, some, isFlat}
-use Rattle.clut_meaning.specs.Table.{pointsOf, entriesOf, lengthOf, lastOf}
-use Rattle.mft_meaning.specs.Answer.{State as Mft·State, answerOf as Mft·answerOf}
-use Rattle.mft_meaning.specs.Layout.{isMft, tablesStart, tablesEnd, colourTable}
-use Rattle.mft_meaning.specs.Mft.{mftOf, numbersOf, tablesOf, badNumbers}
+use Rattle.lut_run_meaning.specs.Run.{entryAt, runAt}
+use Rattle.lut_run_meaning.proofs.Runs.{run-induct}
+use Rattle.lut_clut_meaning.specs.Clut.{Seen as Clut·Seen, is as Clut·is, no as Clut·no, clutOf, shapeOf, gridAt, tableAt, overflows, mostEntries, some, isFlat}
+use Rattle.lut_clut_meaning.specs.Table.{pointsOf, entriesOf, lengthOf, lastOf}
+use Rattle.lut_mft_meaning.specs.Answer.{State as Mft·State, answerOf as Mft·answerOf}
+use Rattle.lut_mft_meaning.specs.Layout.{isMft, tablesStart, tablesEnd, colourTable}
+use Rattle.lut_mft_meaning.specs.Mft.{mftOf, numbersOf, tablesOf, badNumbers}
 use Rattle.lut_meaning.specs.Abm.{abmOf, withTable, judgedOf, recordedOf, valueFrom, tableOf as clutIn}
 use Rattle.lut_meaning.specs.Answer.{State, Answer as Lut·Answer, stateFrom, paper as Lut·paper, mftState, orRefused}
 use Rattle.lut_meaning.specs.Judged.{Judged, good, bad, ended, andThen}
@@ -44,8 +44,8 @@ use Rattle.small_meaning.specs.Layout.{nineNumbers, signatureIn, dateBytes, mea
 use Rattle.small_meaning.specs.Order.{answerTo as Small·answerTo}
 use Rattle.small_meaning.specs.Small.{matrixOf, chadOf, windowOf, tripleOf}
 use Rattle.small_meaning.specs.declared.Found.{Found}
-use Rattle.table_meaning.specs.Answer.{Told, paper as Table·paper}
-use Rattle.table_meaning.specs.View.{tableBy, entryOf}
+use Rattle.lut_view_meaning.specs.Answer.{Told, paper as Table·paper}
+use Rattle.lut_view_meaning.specs.View.{tableBy, entryOf}
 use Rattle.demands.specs.Readers.{Small, chad, sig, date, meas, view, xyz, cicp, Reader, lut, trc, string, small, Call, smallNumbers, smallOf, numbers, meaning, Promised}
 use Rattle.demands.specs.Demands.{Demand1, Demand2, Demand3}
 use Rattle.demands.specs.Kept.{smallResult, result, entryResult, kept}

@@ -8,12 +8,12 @@ use lib.ListN.{length}
 use Rattle.icc.specs.Elements.{numbers as numbersIn, ClutAt, no-clut, the-clut}
 use Rattle.icc.specs.Numbers.{Bytes}
 use Rattle.icc.specs.Small.{signatureType, measurementType, viewingConditionsType, cicpType}
-use Rattle.clut_meaning.specs.Table.{Table}
+use Rattle.lut_clut_meaning.specs.Table.{Table}
 use Rattle.curve_meaning.specs.declared.Walk.{Walk}
 use Rattle.curve_meaning.proofs.Conforms.{lone-read, lone-written}
 use Rattle.curve_meaning.proofs.Unique.{unique as curve-unique}
-use Rattle.mft_meaning.specs.Answer.{Fields, toldTable as Mft·toldTable}
-use Rattle.mft_meaning.specs.Standard.{told16, told8, Begins16, Begins8}
+use Rattle.lut_mft_meaning.specs.Answer.{Fields, toldTable as Mft·toldTable}
+use Rattle.lut_mft_meaning.specs.Standard.{told16, told8, Begins16, Begins8}
 use Rattle.lut_meaning.specs.Abm.{toldTable as Abm·toldTable}
 use Rattle.lut_meaning.specs.Answer.{mft, abm, Abm, State, Answer as Lut·Answer}
 use Rattle.lut_meaning.specs.Standard.{told, PartsAs, TagAs, PassesBy}
@@ -23,12 +23,12 @@ use Rattle.small_meaning.specs.Answer.{Answer as Small·Answer}
 use Rattle.small_meaning.specs.Standard.{signatureTold, someXyzType, firstTold, measurementTold, viewTold, cicpTold, WrittenRead, ReadWritten}
 use Rattle.small_meaning.proofs.Conforms as Small·Conforms
 use Rattle.small_meaning.proofs.Unique.{chad-unique, sig-unique, date-unique, meas-unique, view-unique, xyz-unique, cicp-unique}
-use Rattle.table_meaning.specs.Standard.{ShowsColours, ShowsClut}
-use Rattle.table_meaning.specs.View.{numbersOf, tableBy, entryOf}
-use Rattle.table_meaning.specs.declared.TableNumbers.{TableNumbers}
-use Rattle.table_meaning.proofs.Any.{invalid-absent}
-use Rattle.table_meaning.proofs.Conforms.{abm-colours, wide-colours, narrow-colours}
-use Rattle.table_meaning.proofs.Shows.{Shows as TableShows, abm-shows, mft-shows}
+use Rattle.lut_view_meaning.specs.Standard.{ShowsColours, ShowsClut}
+use Rattle.lut_view_meaning.specs.View.{numbersOf, tableBy, entryOf}
+use Rattle.lut_view_meaning.specs.declared.TableNumbers.{TableNumbers}
+use Rattle.lut_view_meaning.proofs.Any.{invalid-absent}
+use Rattle.lut_view_meaning.proofs.Conforms.{abm-colours, wide-colours, narrow-colours}
+use Rattle.lut_view_meaning.proofs.Shows.{Shows as TableShows, abm-shows, mft-shows}
 use Rattle.text_meaning.specs.Standard.{ReadLocalized}
 use Rattle.text_meaning.proofs.Conforms as Text
 use Rattle.text_meaning.proofs.Unique.{unique as text-unique}

@@ -16,14 +16,14 @@ use Rattle.curve_meaning.specs.Cases.{none, two}
 use Rattle.curve_meaning.specs.Shape.{Shape, empty, table, para, wordsOf}
 use Rattle.curve_meaning.specs.Standard.{Fits, toldOf, Tag}
 use Rattle.curve_meaning.specs.declared.Walk.the-variants.{Crate, Book}
-use Rattle.run.specs.Run.{raised, Each}
-use Rattle.run.specs.Standard.{Passes, recordsTold}
+use Rattle.lut_run_meaning.specs.Run.{raised, Each}
+use Rattle.lut_run_meaning.specs.Standard.{Passes, recordsTold}
 use Rattle.lut_meaning.specs.Answer.{State, mft, abm, absent as State·absent, refused as State·refused, stateFrom, Answer as Lut·Answer}
 use Rattle.lut_meaning.specs.Cases.{tag as threeCurves, slots}
 use Rattle.lut_meaning.specs.Layout.{present, deviceChannels, spaceChannels, aCurves, mCurves, bCurves, recordsNeeded}
 use Rattle.lut_meaning.specs.Standard.{MatrixTaken, ClutFits, told, recordsWritten, PartsTaken, CurvesTaken}
 use Rattle.lut_meaning.specs.declared.LutAnswer.{LutAnswer}
-use Rattle.run.proofs.Conforms.{raised-next}
+use Rattle.lut_run_meaning.proofs.Conforms.{raised-next}
 use Rattle.lut_meaning.proofs.Conforms.{written-records}
 use Rattle.small_meaning.specs.Standard.{SomeXyz}
 use Rattle.demands.specs.Readers.{lut, Call, Library, Promised, says}

@@ -5,8 +5,8 @@ use mathlib.Core.List.{List, [], _∷_, _++_}
 use lib.IntN.{ℤ, pos, negsuc}
 use lib.ListN.{replicate}
 use Rattle.fields.specs.House.{houseEntries, housePoints}
-use Rattle.clut_meaning.specs.Cases.{tag as clut, cube, numbersIn}
-use Rattle.clut_meaning.specs.Clut.{clutOf}
+use Rattle.lut_clut_meaning.specs.Cases.{tag as clut, cube, numbersIn}
+use Rattle.lut_clut_meaning.specs.Clut.{clutOf}
 use Rattle.curve_meaning.specs.Answer.{value}
 use Rattle.curve_meaning.specs.Cases.{para, none, two, many, signedParameters}
 use Rattle.curve_meaning.specs.Curve.{trcOf}

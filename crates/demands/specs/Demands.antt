@@ -17,15 +17,15 @@ use Rattle.fields.specs.Bytes.{u16At, u32At, wordsAt}
 use Rattle.fields.specs.Place.{tagAt, countedSize}
 use Rattle.fields.specs.Tag.{signatureOf}
 use Rattle.fields.specs.declared.Kind.the-variants.{Mab, Mba, Mft1, Mft2}
-use Rattle.clut_meaning.specs.Table.{Table, inGrid, numberOf}
+use Rattle.lut_clut_meaning.specs.Table.{Table, inGrid, numberOf}
 use Rattle.curve_meaning.specs.Answer.{Answer as Curve·Answer}
 use Rattle.curve_meaning.specs.Curve.{tagOf as Curve·tagOf}
 use Rattle.curve_meaning.specs.Shape.{empty, wordsOf, recordWords}
 use Rattle.curve_meaning.specs.Standard.{Fits, toldOf, stepTold, Tag, Lone}
 use Rattle.curve_meaning.specs.declared.Walk.{Walk}
-use Rattle.run.specs.Run.{Placed, placed, Stands, dataEnd}
-use Rattle.mft_meaning.specs.Answer.{Fields, toldTable as Mft·toldTable}
-use Rattle.mft_meaning.specs.Standard.{told16, told8, Taken as MftTaken, Begins16, Begins8}
+use Rattle.lut_run_meaning.specs.Run.{Placed, placed, Stands, dataEnd}
+use Rattle.lut_mft_meaning.specs.Answer.{Fields, toldTable as Mft·toldTable}
+use Rattle.lut_mft_meaning.specs.Standard.{told16, told8, Taken as MftTaken, Begins16, Begins8}
 use Rattle.lut_meaning.specs.Abm.{toldTable as Abm·toldTable}
 use Rattle.lut_meaning.specs.Answer.{mft, abm, Abm, State, Answer as Lut·Answer}
 use Rattle.lut_meaning.specs.Layout.{planOf, recordsNeeded}
@@ -36,10 +36,10 @@ use Rattle.text_meaning.specs.Mluc.{recordsAsked, recordWords as textWords}
 use Rattle.text_meaning.specs.Standard.{BeginsText, descriptionTold, BeginsDescription, Asked as MlucAsked, recordsTold, ReadLocalized}
 use Rattle.small_meaning.specs.Answer.{Answer as Small·Answer}
 use Rattle.small_meaning.specs.Standard.{signatureTold, someXyzType, firstTold, measurementTold, viewTold, cicpTold, WrittenRead, ReadWritten, BeginsNine, BeginsDate}
-use Rattle.table_meaning.specs.Answer.{Told, paper as Table·paper}
-use Rattle.table_meaning.specs.Standard.{ShowsColours, ShowsClut}
-use Rattle.table_meaning.specs.View.{numbersOf, tableBy, storedAt}
-use Rattle.table_meaning.specs.declared.TableNumbers.{TableNumbers}
+use Rattle.lut_view_meaning.specs.Answer.{Told, paper as Table·paper}
+use Rattle.lut_view_meaning.specs.Standard.{ShowsColours, ShowsClut}
+use Rattle.lut_view_meaning.specs.View.{numbersOf, tableBy, storedAt}
+use Rattle.lut_view_meaning.specs.declared.TableNumbers.{TableNumbers}
 use Rattle.demands.specs.Readers.{Small, chad, sig, date, meas, view, xyz, cicp, Reader, lut, trc, string, small, Call, Result, numbers, meaning, Outcome, value, default, absent, refused, Library, ends, Promised, says}
 
 -- the bytes of the tag, in lookup tables and text, and of a lone curve

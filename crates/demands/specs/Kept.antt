@@ -4,9 +4,9 @@ use Rattle.lut_meaning.proofs.Unique.{lutTo}
 use Rattle.text_meaning.proofs.Unique.{resultTo as Text·resultTo}
 use Rattle.small_meaning.specs.Answer.{Answer as Small·Answer}
 use Rattle.small_meaning.proofs.Unique.{chadFrom, sigFrom, dateFrom, measFrom, viewFrom, xyzFrom, cicpFrom}
-use Rattle.table_meaning.specs.Answer.{Told}
-use Rattle.table_meaning.specs.View.{tableBy, entryOf}
-use Rattle.table_meaning.specs.declared.EntryAnswer.{EntryAnswer}
+use Rattle.lut_view_meaning.specs.Answer.{Told}
+use Rattle.lut_view_meaning.specs.View.{tableBy, entryOf}
+use Rattle.lut_view_meaning.specs.declared.EntryAnswer.{EntryAnswer}
 use Rattle.demands.specs.Readers.{Small, chad, sig, date, meas, view, xyz, cicp, Reader, lut, trc, string, small, SmallResult, Result, Numbers, meaning, left, Library}
 
 -- the result that stands for an answer

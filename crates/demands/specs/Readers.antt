@@ -22,10 +22,10 @@ use Rattle.small_meaning.specs.declared.MeasAnswer.{MeasAnswer}
 use Rattle.small_meaning.specs.declared.SigAnswer.{SigAnswer}
 use Rattle.small_meaning.specs.declared.ViewAnswer.{ViewAnswer}
 use Rattle.small_meaning.specs.declared.XyzAnswer.{XyzAnswer}
-use Rattle.table_meaning.specs.Answer.{paper as Table·paper}
-use Rattle.table_meaning.specs.View.{tableBy, entryOf}
-use Rattle.table_meaning.specs.declared.EntryAnswer.{EntryAnswer}
-use Rattle.table_meaning.specs.declared.TableNumbers.{TableNumbers}
+use Rattle.lut_view_meaning.specs.Answer.{paper as Table·paper}
+use Rattle.lut_view_meaning.specs.View.{tableBy, entryOf}
+use Rattle.lut_view_meaning.specs.declared.EntryAnswer.{EntryAnswer}
+use Rattle.lut_view_meaning.specs.declared.TableNumbers.{TableNumbers}
 
 -- `read_chad_tag`, `read_tech_tag`, `read_date_time_tag`, `read_meas_tag`, `read_viewing_conditions`, `read_xyz_tag`, `read_cicp_tag`
 pub data Small : Type 0 where
@@ -179,11 +179,11 @@ Leaves r c slots = slots ≡ left r c
 abbrev pub Keeps : (r : Reader) → Call → Result r → List ℕ → Type 0
 Keeps r c x slots = Answers r c x × Leaves r c slots
 
--- and that of `table::entry_at`, of the entry that it reads
+-- and that of `lut_view::entry_at`, of the entry that it reads
 abbrev pub Reads : List ℕ → TableNumbers → List ℕ → ℕ → EntryAnswer → Type 0
 Reads t n index channel x = Table·paper x ≡ entryOf t (tableBy t n) index channel
 
--- the library keeps the contracts of the readers and of `table::entry_at`. The functions of crate demands_kept say the same of the code
+-- the library keeps the contracts of the readers and of `lut_view::entry_at`. The functions of crate demands_kept say the same of the code
 pub record Promised (l : Library) : Type 0 where
   pub answers : (r : Reader) (c : Call) → Answers r c (l .returns r c)
   pub leaves-so : (r : Reader) (c : Call) → Leaves r c (l .leaves r c)

@@ -7,7 +7,7 @@ use Rattle.fields.specs.declared.Refusal.the-variants.{PastProfile}
 use Rattle.curve_meaning.specs.Shape.{recordWords}
 use Rattle.curve_meaning.specs.declared.CurveAnswer.{CurveAnswer}
 use Rattle.curve_meaning.specs.declared.Walk.{Walk}
-use Rattle.run.specs.Run.{recordsOf}
+use Rattle.lut_run_meaning.specs.Run.{recordsOf}
 use Rattle.lut_meaning.specs.Layout.{planOf, recordsNeeded}
 use Rattle.lut_meaning.specs.Parts.{curvesOf}
 use Rattle.lut_meaning.specs.declared.LutAnswer.{LutAnswer}

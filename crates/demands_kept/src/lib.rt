@@ -12,8 +12,8 @@ use small_meaning::MeasAnswer;
 use small_meaning::SigAnswer;
 use small_meaning::ViewAnswer;
 use small_meaning::XyzAnswer;
-use table::EntryAnswer;
-use table::TableNumbers;
+use lut_view::EntryAnswer;
+use lut_view::TableNumbers;
 use text::TextAnswer;
 ghost use Prim.Native.Nat.{ℕ};
 ghost use mathlib.Core.List.{List};
@@ -48,19 +48,19 @@ pub fn string_tag(profile: &[u8], entry: Entry, size: u32, slots: &mut [u32]) ->
 pub fn chad_tag(profile: &[u8], entry: Entry, size: u32) -> ChadAnswer
     ensures { λ r. ⌜ ((entries points : ℕ) (slots : List ℕ) → Keeps (small chad) (call (now (profile .entry)) (entry .0) size entries points slots) r slots) ⌝ }
 {
-    chad::read_chad_tag(profile, entry, size)
+    small_chad::read_chad_tag(profile, entry, size)
 }
 
 pub fn tech_tag(profile: &[u8], entry: Entry, size: u32) -> SigAnswer
     ensures { λ r. ⌜ ((entries points : ℕ) (slots : List ℕ) → Keeps (small sig) (call (now (profile .entry)) (entry .0) size entries points slots) r slots) ⌝ }
 {
-    small::read_tech_tag(profile, entry, size)
+    small_raw::read_tech_tag(profile, entry, size)
 }
 
 pub fn date_time_tag(profile: &[u8], entry: Entry, size: u32) -> DateAnswer
     ensures { λ r. ⌜ ((entries points : ℕ) (slots : List ℕ) → Keeps (small date) (call (now (profile .entry)) (entry .0) size entries points slots) r slots) ⌝ }
 {
-    small::read_date_time_tag(profile, entry, size)
+    small_raw::read_date_time_tag(profile, entry, size)
 }
 
 pub fn meas_tag(profile: &[u8], entry: Entry, size: u32) -> MeasAnswer
@@ -84,11 +84,11 @@ pub fn xyz_tag(profile: &[u8], entry: Entry, size: u32) -> XyzAnswer
 pub fn cicp_tag(profile: &[u8], entry: Entry, size: u32) -> CicpAnswer
     ensures { λ r. ⌜ ((entries points : ℕ) (slots : List ℕ) → Keeps (small cicp) (call (now (profile .entry)) (entry .0) size entries points slots) r slots) ⌝ }
 {
-    small::read_cicp_tag(profile, entry, size)
+    small_raw::read_cicp_tag(profile, entry, size)
 }
 
 pub fn entry_at(tag: &[u8], numbers: TableNumbers, index: &[u8], channel: u8) -> EntryAnswer
     ensures { λ r. ⌜ Reads (now (tag .entry)) numbers (now (index .entry)) channel r ⌝ }
 {
-    table::entry_at(tag, numbers, index, channel)
+    lut_view::entry_at(tag, numbers, index, channel)
 }

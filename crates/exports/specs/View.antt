@@ -1,6 +1,6 @@
 -- The numbers of a table view, as a caller hands them over.
 use Prim.Native.Nat.{ℕ}
-use Rattle.table_meaning.specs.declared.TableNumbers.{TableNumbers}
+use Rattle.lut_view_meaning.specs.declared.TableNumbers.{TableNumbers}
 
 abbrev pub numbersBy : ℕ → ℕ → ℕ → ℕ → ℕ → ℕ → TableNumbers
 numbersBy start size inputs outputs at step =

@@ -2,8 +2,8 @@
 use crate::NO_ROOM;
 use fields::Entry;
 ghost use Rattle.curve_meaning.specs.Curve.{trcOf};
-ghost use Rattle.told.specs.Told.{within, Gave};
-ghost use Rattle.curve_told.specs.Layout.{walkOf, curveTold};
+ghost use Rattle.export_words.specs.Told.{within, Gave};
+ghost use Rattle.export_curve.specs.Layout.{walkOf, curveTold};
 
 // The words of a curve's layout.
 const CURVE_WORDS: usize = 11;
@@ -29,7 +29,7 @@ pub extern "C" fn khalyksor_read_trc_tag(
         Entry(offset),
         size,
         limit,
-        curve_told::walk_of(walk),
+        export_curve::walk_of(walk),
     );
-    curve_told::tell_curve(got, out)
+    export_curve::tell_curve(got, out)
 }

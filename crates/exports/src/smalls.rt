@@ -2,10 +2,10 @@
 use crate::NO_ROOM;
 use fields::Entry;
 ghost use Rattle.small_meaning.specs.Small.{chadOf, sigOf, dateOf, measOf, viewOf, xyzOf, cicpOf};
-ghost use Rattle.told.specs.Told.{within, Gave};
-ghost use Rattle.small_told.specs.Layout.{smallTold};
+ghost use Rattle.export_words.specs.Told.{within, Gave};
+ghost use Rattle.export_small.specs.Layout.{smallTold};
 
-// chad::read_chad_tag. Nine words: the matrix, row by row.
+// small_chad::read_chad_tag. Nine words: the matrix, row by row.
 #[no_mangle]
 pub extern "C" fn khalyksor_read_chad_tag(
     profile: &[u8],
@@ -18,11 +18,11 @@ pub extern "C" fn khalyksor_read_chad_tag(
     if out.len() < 9 {
         return NO_ROOM;
     }
-    let got = chad::read_chad_tag(profile, Entry(offset), size);
-    small_told::tell_chad(got, out)
+    let got = small_chad::read_chad_tag(profile, Entry(offset), size);
+    export_small::tell_chad(got, out)
 }
 
-// small::read_tech_tag. One word: the signature.
+// small_raw::read_tech_tag. One word: the signature.
 #[no_mangle]
 pub extern "C" fn khalyksor_read_tech_tag(
     profile: &[u8],
@@ -35,11 +35,11 @@ pub extern "C" fn khalyksor_read_tech_tag(
     if out.len() < 1 {
         return NO_ROOM;
     }
-    let got = small::read_tech_tag(profile, Entry(offset), size);
-    small_told::tell_sig(got, out)
+    let got = small_raw::read_tech_tag(profile, Entry(offset), size);
+    export_small::tell_sig(got, out)
 }
 
-// small::read_date_time_tag. Twelve words: the bytes 8 to 19 of the profile.
+// small_raw::read_date_time_tag. Twelve words: the bytes 8 to 19 of the profile.
 #[no_mangle]
 pub extern "C" fn khalyksor_read_date_time_tag(
     profile: &[u8],
@@ -52,8 +52,8 @@ pub extern "C" fn khalyksor_read_date_time_tag(
     if out.len() < 12 {
         return NO_ROOM;
     }
-    let got = small::read_date_time_tag(profile, Entry(offset), size);
-    small_told::tell_date(got, out)
+    let got = small_raw::read_date_time_tag(profile, Entry(offset), size);
+    export_small::tell_date(got, out)
 }
 
 // small_xyz::read_meas_tag. Seven words: observer, backing X Y Z, geometry, flare, illuminant.
@@ -70,7 +70,7 @@ pub extern "C" fn khalyksor_read_meas_tag(
         return NO_ROOM;
     }
     let got = small_xyz::read_meas_tag(profile, Entry(offset), size);
-    small_told::tell_meas(got, out)
+    export_small::tell_meas(got, out)
 }
 
 // small_xyz::read_viewing_conditions. Seven words: illuminant X Y Z, surround X Y Z, the number at byte 32.
@@ -87,7 +87,7 @@ pub extern "C" fn khalyksor_read_viewing_conditions(
         return NO_ROOM;
     }
     let got = small_xyz::read_viewing_conditions(profile, Entry(offset), size);
-    small_told::tell_view(got, out)
+    export_small::tell_view(got, out)
 }
 
 // small_xyz::read_xyz_tag. Three words: X Y Z. On the default, which stands for three zeros, `out` stays.
@@ -104,10 +104,10 @@ pub extern "C" fn khalyksor_read_xyz_tag(
         return NO_ROOM;
     }
     let got = small_xyz::read_xyz_tag(profile, Entry(offset), size);
-    small_told::tell_xyz(got, out)
+    export_small::tell_xyz(got, out)
 }
 
-// small::read_cicp_tag. Four words: primaries, transfer, matrix, the flag of the full range.
+// small_raw::read_cicp_tag. Four words: primaries, transfer, matrix, the flag of the full range.
 #[no_mangle]
 pub extern "C" fn khalyksor_read_cicp_tag(
     profile: &[u8],
@@ -120,6 +120,6 @@ pub extern "C" fn khalyksor_read_cicp_tag(
     if out.len() < 4 {
         return NO_ROOM;
     }
-    let got = small::read_cicp_tag(profile, Entry(offset), size);
-    small_told::tell_cicp(got, out)
+    let got = small_raw::read_cicp_tag(profile, Entry(offset), size);
+    export_small::tell_cicp(got, out)
 }

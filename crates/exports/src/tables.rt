@@ -2,13 +2,13 @@
 use crate::NO_ROOM;
 use fields::Entry;
 use fields::InTag;
-use table::TableNumbers;
+use lut_view::TableNumbers;
 ghost use lib.ListN.{length};
-ghost use Rattle.curve_told.specs.Layout.{walkOf};
+ghost use Rattle.export_curve.specs.Layout.{walkOf};
 ghost use Rattle.lut_meaning.specs.Lut.{lutOf, leftOf};
-ghost use Rattle.table_meaning.specs.View.{entryOf, tableBy};
-ghost use Rattle.told.specs.Told.{within, Gave, GaveWith};
-ghost use Rattle.lut_told.specs.Layout.{lutTold, entryTold};
+ghost use Rattle.lut_view_meaning.specs.View.{entryOf, tableBy};
+ghost use Rattle.export_words.specs.Told.{within, Gave, GaveWith};
+ghost use Rattle.export_lut.specs.Layout.{lutTold, entryTold};
 ghost use Rattle.exports.specs.View.{numbersBy};
 
 // The words of the longest layout, that of `mAB ` and `mBA `.
@@ -41,13 +41,13 @@ pub extern "C" fn khalyksor_read_lut_tag(
         size,
         limit,
         points,
-        curve_told::walk_of(walk),
+        export_curve::walk_of(walk),
         slots,
     );
-    lut_told::tell_lut(got, out)
+    export_lut::tell_lut(got, out)
 }
 
-// table::entry_at, of the tag's own bytes. The numbers are those of the lookup table's answer: where the colour table starts, the bytes of an
+// lut_view::entry_at, of the tag's own bytes. The numbers are those of the lookup table's answer: where the colour table starts, the bytes of an
 // entry, the channels, where the grid bytes stand and the step between them: 10 and 0 for `mft1` and `mft2`, start - 20 and 1 for `mAB ` and
 // `mBA `. One word: the entry.
 #[no_mangle]
@@ -76,6 +76,6 @@ pub extern "C" fn khalyksor_entry_at(
         grid_at: InTag(at),
         grid_step: step,
     };
-    let got = table::entry_at(tag, numbers, index, channel);
-    lut_told::tell_entry(got, out)
+    let got = lut_view::entry_at(tag, numbers, index, channel);
+    export_lut::tell_entry(got, out)
 }

@@ -3,8 +3,8 @@ use crate::NO_ROOM;
 use fields::Entry;
 ghost use lib.ListN.{length};
 ghost use Rattle.text_meaning.specs.Text.{stringOf, leftOf};
-ghost use Rattle.told.specs.Told.{GaveWith};
-ghost use Rattle.text_told.specs.Layout.{textTold};
+ghost use Rattle.export_words.specs.Told.{GaveWith};
+ghost use Rattle.export_text.specs.Layout.{textTold};
 
 // The words of the longest layout, that of `desc`.
 const TEXT_WORDS: usize = 6;
@@ -25,5 +25,5 @@ pub extern "C" fn khalyksor_read_string_tag(
         return NO_ROOM;
     }
     let got = text::read_string_tag(profile, Entry(offset), size, slots);
-    text_told::tell_text(got, out)
+    export_text::tell_text(got, out)
 }

@@ -17,20 +17,20 @@ use Rattle.fields.specs.declared.Place.{Place}
 use Rattle.fields.specs.declared.Place.the-variants.{In, Past}
 use Rattle.fields.specs.declared.Refusal.{Refusal}
 use Rattle.fields.proofs.Located.{inside, past, part-is}
-use Rattle.clut_meaning.specs.Answer.{paper as clutPaper, toldOf, Told, value as clutValue, refused as clutRefused}
-use Rattle.clut_meaning.specs.Clut.{Seen, is, no, clutOf}
-use Rattle.clut_meaning.specs.Table.{product, lengthOf}
-use Rattle.clut_meaning.specs.declared.ClutAnswer.{ClutAnswer}
-use Rattle.clut_meaning.specs.declared.ColourTable.{ColourTable}
+use Rattle.lut_clut_meaning.specs.Answer.{paper as clutPaper, toldOf, Told, value as clutValue, refused as clutRefused}
+use Rattle.lut_clut_meaning.specs.Clut.{Seen, is, no, clutOf}
+use Rattle.lut_clut_meaning.specs.Table.{product, lengthOf}
+use Rattle.lut_clut_meaning.specs.declared.ClutAnswer.{ClutAnswer}
+use Rattle.lut_clut_meaning.specs.declared.ColourTable.{ColourTable}
 use Rattle.curve_meaning.specs.Shape.{recordWords}
 use Rattle.curve_meaning.specs.declared.Walk.{Walk}
-use Rattle.mft_meaning.specs.Answer.{State as Mft·State, fieldsFrom, answerOf, paper as Mft·paper}
-use Rattle.mft_meaning.specs.Layout.{isMft}
-use Rattle.mft_meaning.specs.Mft.{mftOf}
-use Rattle.mft_meaning.specs.declared.Mft.{Mft}
-use Rattle.mft_meaning.specs.declared.MftAnswer.{MftAnswer}
-use Rattle.mft_meaning.specs.declared.MftTable.{MftTable}
-use Rattle.run.specs.Run.{recordsOf}
+use Rattle.lut_mft_meaning.specs.Answer.{State as Mft·State, fieldsFrom, answerOf, paper as Mft·paper}
+use Rattle.lut_mft_meaning.specs.Layout.{isMft}
+use Rattle.lut_mft_meaning.specs.Mft.{mftOf}
+use Rattle.lut_mft_meaning.specs.declared.Mft.{Mft}
+use Rattle.lut_mft_meaning.specs.declared.MftAnswer.{MftAnswer}
+use Rattle.lut_mft_meaning.specs.declared.MftTable.{MftTable}
+use Rattle.lut_run_meaning.specs.Run.{recordsOf}
 use Rattle.lut_meaning.specs.Abm.{tableOf, valueFrom, recordedOf, judgedOf, withTable, abmOf}
 use Rattle.lut_meaning.specs.Answer.{mft, abm, refused, Answer, none, refuse, mftState, fromMft, paper, leftBy}
 use Rattle.lut_meaning.specs.Layout.{toPcs, inputs, outputs, clutOffset, planOf, Planned, recordsNeeded, gridOf, matrixOf, biasOf}

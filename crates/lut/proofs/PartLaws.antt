@@ -18,7 +18,7 @@ use Rattle.fields.proofs.Choice.{first-holds, second-holds}
 use Rattle.fields.proofs.Stores.{sets-append, front, rejoined}
 use Rattle.curve_meaning.specs.Shape.{recordWords}
 use Rattle.curve_meaning.specs.declared.Walk.{Walk}
-use Rattle.run.specs.Run.{runAt, recordsOf}
+use Rattle.lut_run_meaning.specs.Run.{runAt, recordsOf}
 use Rattle.lut_meaning.specs.Layout.{toPcs, deviceChannels, spaceChannels, present, Few, aCurves, mCurves, bCurves, planOf, Planned, identity, matrixOf, biasOf, gridOf}
 use Rattle.lut_meaning.specs.Parts.{runA, runM, runB, runsJudged, curvesOf, matrixJudged}
 use Rattle.lut_meaning.specs.Judged.{Judged, good, bad, ended, andThen}

@@ -23,9 +23,9 @@ use Rattle.curve_meaning.specs.declared.Walk.{Walk}
 use Rattle.curve_meaning.proofs.Inside.{step-most}
 use Rattle.curve_meaning.proofs.Step as steps
 use Rattle.curve_meaning.proofs.Told.{stepped, stepped-no}
-use Rattle.run.specs.Run.{Ran, raised, entryAt, runAt}
-use Rattle.run.proofs.Runs.{entry-there, entry-inside, run-turn}
-use Rattle.run.proofs.Writing.{Writing, words-length, next-is, turns}
+use Rattle.lut_run_meaning.specs.Run.{Ran, raised, entryAt, runAt}
+use Rattle.lut_run_meaning.proofs.Runs.{entry-there, entry-inside, run-turn}
+use Rattle.lut_run_meaning.proofs.Writing.{Writing, words-length, next-is, turns}
 use Rattle.lut_meaning.specs.Judged.{good, bad, ended}
 use Rattle.lut.specs.Verdict.{judgedFrom, stepJudged}
 use Rattle.lut.specs.declared.nested.Verdict.{Verdict}

@@ -3,8 +3,8 @@ use crate::answer;
 use crate::nested;
 use crate::nested::RECORD_WORDS;
 use crate::nested::Verdict;
-use clut_meaning::ClutAnswer;
-use clut_meaning::ColourTable;
+use lut_clut_meaning::ClutAnswer;
+use lut_clut_meaning::ColourTable;
 use curve::Walk;
 use fields::InTag;
 use fields::Kind;
@@ -19,10 +19,10 @@ ghost use mathlib.Core.List.{_++_};
 ghost use Prim.Native.Nat.{_+_, _*_, _^_, _≤_, _<_};
 ghost use lib.Dec.{ltb, eqb};
 ghost use lib.ListN.{length, drop};
-ghost use Rattle.clut_meaning.specs.Answer.{paper as Clut·paper, toldOf};
+ghost use Rattle.lut_clut_meaning.specs.Answer.{paper as Clut·paper, toldOf};
 ghost use Rattle.fields.specs.Bytes.{bytesAt};
 ghost use Rattle.curve_meaning.specs.Shape.{recordWords};
-ghost use Rattle.run.specs.Run.{recordsOf};
+ghost use Rattle.lut_run_meaning.specs.Run.{recordsOf};
 ghost use Rattle.lut_meaning.specs.Abm.{tableOf, valueFrom, recordedOf, judgedOf, withTable, abmOf};
 ghost use Rattle.lut_meaning.specs.Lut.{Said};
 ghost use Rattle.lut_meaning.specs.Parts.{runsJudged, curvesOf, matrixJudged};
@@ -205,7 +205,7 @@ fn find_table(tag: &[u8]) -> ClutAnswer
     }
     let inputs = fields::u8_at(tag, InTag(8));
     let outputs = fields::u8_at(tag, InTag(9));
-    clut::read_clut(tag, InTag(at as u64), inputs, outputs)
+    lut_clut::read_clut(tag, InTag(at as u64), inputs, outputs)
 }
 
 // Fills `out` with the bytes from `at` on, all of them in the tag.

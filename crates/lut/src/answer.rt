@@ -2,11 +2,11 @@
 use fields::Refusal;
 use lut_meaning::Lut;
 use lut_meaning::LutAnswer;
-use mft_meaning::Mft;
-use mft_meaning::MftAnswer;
+use lut_mft_meaning::Mft;
+use lut_mft_meaning::MftAnswer;
 ghost use mathlib.Core.Path.{_≡_};
 ghost use Rattle.fields.specs.Refusals.{numberOf};
-ghost use Rattle.mft_meaning.specs.Answer.{paper as Mft·paper};
+ghost use Rattle.lut_mft_meaning.specs.Answer.{paper as Mft·paper};
 ghost use Rattle.lut_meaning.specs.Answer.{none, refuse, fromMft, paper};
 
 pub(crate) fn absent() -> Lut

@@ -34,8 +34,8 @@ fn read_kind(tag: &[u8], limit: u64, points: u64, walk: Walk, slots: &mut [u32])
     requires { ⌜ length (now tag) < 2 ^ 32 ⌝ }
     ensures { λ r. ⌜ Said walk limit (now (tag .entry)) (byType walk limit points (now (tag .entry)) (length (now (slots .entry)))) r (now (slots .entry)) (now (slots .exit)) ⌝ }
 {
-    if mft::is_mft(tag) {
-        return answer::from_mft(mft::read_lut_a_to_b_type(tag, points));
+    if lut_mft::is_mft(tag) {
+        return answer::from_mft(lut_mft::read_lut_a_to_b_type(tag, points));
     }
     if is_abm(tag) {
         return abm::read_lut_abm_type(tag, limit, walk, slots);

@@ -10,7 +10,7 @@ ghost use Prim.Native.Nat.{_+_, _*_, _^_, _≤_, _<_};
 ghost use lib.ListN.{length, drop};
 ghost use Rattle.curve_meaning.specs.Answer.{goingFrom, goingOf};
 ghost use Rattle.curve_meaning.specs.Shape.{recordWords};
-ghost use Rattle.run.specs.Run.{whole, raised, entryAt, runAt, recordsOf};
+ghost use Rattle.lut_run_meaning.specs.Run.{whole, raised, entryAt, runAt, recordsOf};
 ghost use Rattle.lut_meaning.specs.Judged.{ended};
 ghost use Rattle.lut.specs.Verdict.{judgedFrom, stepJudged};
 

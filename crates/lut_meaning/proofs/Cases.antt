@@ -3,15 +3,15 @@
 use mathlib.Core.Path.{refl}
 use Rattle.fields.specs.Bytes.{bytesAt, wordsAt}
 use Rattle.fields.specs.Tag.{signatureOf}
-use Rattle.clut_meaning.specs.Clut.{clutOf, shapeOf, some, partials}
-use Rattle.clut_meaning.specs.Table.{product, pointOf}
+use Rattle.lut_clut_meaning.specs.Clut.{clutOf, shapeOf, some, partials}
+use Rattle.lut_clut_meaning.specs.Table.{product, pointOf}
 use Rattle.curve_meaning.specs.Curve.{curveOf, tableOf as curvOf, paraOf, divides}
 use Rattle.curve_meaning.specs.Layout.{parameterCount}
 use Rattle.curve_meaning.specs.Shape.{sizeOf, stepOf, wordsOf}
-use Rattle.mft_meaning.specs.Answer.{fieldsOf, answerOf}
-use Rattle.mft_meaning.specs.Layout.{isWide, isMft, entrySize, tablesStart, entriesAt, colourTable}
-use Rattle.mft_meaning.specs.Mft.{outside, badEntries, badChannels, badNumbers, tablesOf, numbersOf, mftOf}
-use Rattle.run.specs.Run.{raised, entryAt, runAt, recordsOf}
+use Rattle.lut_mft_meaning.specs.Answer.{fieldsOf, answerOf}
+use Rattle.lut_mft_meaning.specs.Layout.{isWide, isMft, entrySize, tablesStart, entriesAt, colourTable}
+use Rattle.lut_mft_meaning.specs.Mft.{outside, badEntries, badChannels, badNumbers, tablesOf, numbersOf, mftOf}
+use Rattle.lut_run_meaning.specs.Run.{raised, entryAt, runAt, recordsOf}
 use Rattle.lut_meaning.specs.Abm.{tableOf, valueFrom, recordedOf, judgedOf, abmOf}
 use Rattle.lut_meaning.specs.Cases.{All, Holds, cases}
 use Rattle.lut_meaning.specs.Layout.{present, deviceChannels, spaceChannels, aCurves, mCurves, bCurves, planOf, recordsNeeded, gridOf, matrixOf, biasOf}

@@ -20,25 +20,25 @@ use Rattle.fields.specs.Bytes.{u16At, u32At, bytesAt, wordsAt}
 use Rattle.fields.specs.Place.{countedSize}
 use Rattle.fields.specs.Tag.{signatureOf}
 use Rattle.fields.specs.declared.Kind.the-variants.{Mab}
-use Rattle.clut_meaning.specs.Clut.{is, clutOf}
-use Rattle.clut_meaning.specs.Table.{Table, lengthOf}
-use Rattle.clut_meaning.specs.Standard.{told as tableTold}
-use Rattle.clut_meaning.proofs.Laid.{accepted as clut-accepted}
-use Rattle.clut_meaning.proofs.Conforms.{told-length, written-read as clut-written, read-written as clut-read}
+use Rattle.lut_clut_meaning.specs.Clut.{is, clutOf}
+use Rattle.lut_clut_meaning.specs.Table.{Table, lengthOf}
+use Rattle.lut_clut_meaning.specs.Standard.{told as tableTold}
+use Rattle.lut_clut_meaning.proofs.Laid.{accepted as clut-accepted}
+use Rattle.lut_clut_meaning.proofs.Conforms.{told-length, written-read as clut-written, read-written as clut-read}
 use Rattle.curve_meaning.specs.Shape.{recordWords}
 use Rattle.curve_meaning.specs.declared.Walk.{Walk}
 use Rattle.curve_meaning.specs.declared.Walk.the-variants.{Crate, Book}
-use Rattle.run.specs.Run.{Placed, whole, recordsOf, runAt}
-use Rattle.run.specs.Standard.{seenOf, Passes, Standing, NoneEmpty}
-use Rattle.run.proofs.Runs.{run-count}
-use Rattle.run.proofs.Conforms.{written-run, run-written, records-are, passes-by}
-use Rattle.run.proofs.Writing.{records-append, records-length}
+use Rattle.lut_run_meaning.specs.Run.{Placed, whole, recordsOf, runAt}
+use Rattle.lut_run_meaning.specs.Standard.{seenOf, Passes, Standing, NoneEmpty}
+use Rattle.lut_run_meaning.proofs.Runs.{run-count}
+use Rattle.lut_run_meaning.proofs.Conforms.{written-run, run-written, records-are, passes-by}
+use Rattle.lut_run_meaning.proofs.Writing.{records-append, records-length}
 use Rattle.lut_meaning.specs.Abm.{noTable, tableOf, valueFrom, recordedOf, judgedOf, abmOf}
-use Rattle.mft_meaning.specs.Answer.{Fields, State, answerOf}
-use Rattle.mft_meaning.specs.Layout.{isWide, isMft, matrixOf as mftMatrix}
-use Rattle.mft_meaning.specs.Mft.{mftOf}
-use Rattle.mft_meaning.specs.Standard.{told16, told8, Taken as MftTaken, Begins8, Begins16}
-use Rattle.mft_meaning.proofs.Conforms.{written-read16, written-read8, read-written as mft-written}
+use Rattle.lut_mft_meaning.specs.Answer.{Fields, State, answerOf}
+use Rattle.lut_mft_meaning.specs.Layout.{isWide, isMft, matrixOf as mftMatrix}
+use Rattle.lut_mft_meaning.specs.Mft.{mftOf}
+use Rattle.lut_mft_meaning.specs.Standard.{told16, told8, Taken as MftTaken, Begins8, Begins16}
+use Rattle.lut_mft_meaning.proofs.Conforms.{written-read16, written-read8, read-written as mft-written}
 use Rattle.lut_meaning.specs.Answer.{Abm, State as Abm·State, mft, abm, absent, refused, Answer, refuse, fromMft}
 use Rattle.lut_meaning.specs.Judged.{good, ended}
 use Rattle.lut_meaning.specs.Layout.{toPcs, inputs, outputs, bOffset, matrixOffset, mOffset, clutOffset, aOffset, present, deviceChannels, spaceChannels, aCurves, mCurves, bCurves, planOf, recordsNeeded, matrixOf, biasOf, gridOf}

@@ -15,13 +15,13 @@ use Rattle.fields.specs.Bytes.{u32At}
 use Rattle.fields.specs.Tag.{signatureOf}
 use Rattle.fields.specs.declared.Kind.the-variants.{Mab, Mba}
 use Rattle.fields.proofs.Choice.{each}
-use Rattle.clut_meaning.specs.Clut.{Seen, is, no}
-use Rattle.clut_meaning.specs.Table.{Table, lengthOf}
+use Rattle.lut_clut_meaning.specs.Clut.{Seen, is, no}
+use Rattle.lut_clut_meaning.specs.Table.{Table, lengthOf}
 use Rattle.curve_meaning.specs.Shape.{recordWords}
 use Rattle.curve_meaning.specs.declared.Walk.{Walk}
-use Rattle.mft_meaning.specs.Answer.{Fields, State as Mft·State, answerOf}
-use Rattle.mft_meaning.specs.Layout.{isMft}
-use Rattle.mft_meaning.specs.Mft.{mftOf}
+use Rattle.lut_mft_meaning.specs.Answer.{Fields, State as Mft·State, answerOf}
+use Rattle.lut_mft_meaning.specs.Layout.{isMft}
+use Rattle.lut_mft_meaning.specs.Mft.{mftOf}
 use Rattle.lut_meaning.specs.Abm.{tableOf, valueFrom, recordedOf, judgedOf, withTable, abmOf}
 use Rattle.lut_meaning.specs.Answer.{Abm, State, mft, abm, absent, refused, Answer, fromMft, orRefused}
 use Rattle.lut_meaning.specs.Layout.{inputs, outputs, planOf, recordsNeeded}

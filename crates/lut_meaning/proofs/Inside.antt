@@ -17,16 +17,16 @@ use Rattle.fields.specs.Tag.{signatureOf}
 use Rattle.fields.specs.declared.Kind.the-variants.{Mab, Mba}
 use Rattle.fields.proofs.Choice.{each}
 use Rattle.fields.proofs.Words.{bytes-part}
-use Rattle.clut_meaning.specs.Clut.{is, clutOf}
-use Rattle.clut_meaning.specs.Table.{Table, lengthOf, inGrid, numberOf}
-use Rattle.clut_meaning.proofs.Laid.{accepted as laid-out}
-use Rattle.clut_meaning.proofs.Grid.{entry-below}
-use Rattle.clut_meaning.proofs.Inside.{inside}
+use Rattle.lut_clut_meaning.specs.Clut.{is, clutOf}
+use Rattle.lut_clut_meaning.specs.Table.{Table, lengthOf, inGrid, numberOf}
+use Rattle.lut_clut_meaning.proofs.Laid.{accepted as laid-out}
+use Rattle.lut_clut_meaning.proofs.Grid.{entry-below}
+use Rattle.lut_clut_meaning.proofs.Inside.{inside}
 use Rattle.curve_meaning.specs.declared.Walk.{Walk}
-use Rattle.mft_meaning.specs.Answer.{Fields, answerOf}
-use Rattle.mft_meaning.proofs.Inside.{Inside as MftInside, inside as inside-mft}
-use Rattle.run.specs.Run.{Placed, Stands, Each}
-use Rattle.run.proofs.Runs.{run-inside}
+use Rattle.lut_mft_meaning.specs.Answer.{Fields, answerOf}
+use Rattle.lut_mft_meaning.proofs.Inside.{Inside as MftInside, inside as inside-mft}
+use Rattle.lut_run_meaning.specs.Run.{Placed, Stands, Each}
+use Rattle.lut_run_meaning.proofs.Runs.{run-inside}
 use Rattle.lut_meaning.specs.Abm.{noTable, tableOf, valueFrom, toldTable, abmOf}
 use Rattle.lut_meaning.specs.Answer.{Abm, mft, abm, Answer}
 use Rattle.lut_meaning.specs.Layout.{recordsNeeded, toPcs, inputs, outputs, matrixOffset, clutOffset, aOffset, mOffset, bOffset, aCurves, mCurves, bCurves, planOf, identity, matrixOf, biasOf, gridOf}

@@ -11,16 +11,16 @@ use lib.ListN.{length, drop}
 use borrow.Author.Tests.{ltb-true, ltb-false, le-ltb}
 use Rattle.fields.specs.Place.{countedSize}
 use Rattle.fields.proofs.Choice.{each}
-use Rattle.clut_meaning.specs.Clut.{Seen as Clut·Seen, is, no, tableAt, gridAt, some, isFlat, overflows, mostEntries, shapeOf, clutOf}
-use Rattle.clut_meaning.specs.Table.{Table, entriesOf, lengthOf, lastOf, pointsOf}
+use Rattle.lut_clut_meaning.specs.Clut.{Seen as Clut·Seen, is, no, tableAt, gridAt, some, isFlat, overflows, mostEntries, shapeOf, clutOf}
+use Rattle.lut_clut_meaning.specs.Table.{Table, entriesOf, lengthOf, lastOf, pointsOf}
 use Rattle.curve_meaning.specs.Shape.{Seen as Curve·Seen, recordWords}
 use Rattle.curve_meaning.specs.declared.Walk.{Walk}
 use Rattle.curve_meaning.proofs.Last.{Not14, other, curve-not-14}
-use Rattle.mft_meaning.specs.Answer.{State as Mft·State, answerOf}
-use Rattle.mft_meaning.specs.Layout.{isMft, tablesStart, tablesEnd, colourTable}
-use Rattle.mft_meaning.specs.Mft.{badNumbers, tablesOf, numbersOf, mftOf}
-use Rattle.run.specs.Run.{runAt, entryAt}
-use Rattle.run.proofs.Runs.{run-induct}
+use Rattle.lut_mft_meaning.specs.Answer.{State as Mft·State, answerOf}
+use Rattle.lut_mft_meaning.specs.Layout.{isMft, tablesStart, tablesEnd, colourTable}
+use Rattle.lut_mft_meaning.specs.Mft.{badNumbers, tablesOf, numbersOf, mftOf}
+use Rattle.lut_run_meaning.specs.Run.{runAt, entryAt}
+use Rattle.lut_run_meaning.proofs.Runs.{run-induct}
 use Rattle.lut_meaning.specs.Abm.{tableOf, noTable, valueFrom, recordedOf, judgedOf, withTable, abmOf}
 use Rattle.lut_meaning.specs.Answer.{State, refused, Answer, fromMft, orRefused}
 use Rattle.lut_meaning.specs.Judged.{Judged, good, bad, ended, andThen}

@@ -14,16 +14,16 @@ use borrow.Author.Tests.{ltb-false, le-ltb}
 use Rattle.fields.specs.Place.{countedSize}
 use Rattle.fields.proofs.Append.{longer, part-append}
 use Rattle.fields.proofs.Grow.{Grows, choose, passes}
-use Rattle.clut_meaning.specs.Clut.{Seen, is, no}
-use Rattle.clut_meaning.specs.Table.{lengthOf}
+use Rattle.lut_clut_meaning.specs.Clut.{Seen, is, no}
+use Rattle.lut_clut_meaning.specs.Table.{lengthOf}
 use Rattle.curve_meaning.specs.Shape.{recordWords}
 use Rattle.curve_meaning.specs.declared.Walk.{Walk}
-use Rattle.mft_meaning.specs.Answer.{State as Mft·State, answerOf}
-use Rattle.mft_meaning.specs.Layout.{isMft}
-use Rattle.mft_meaning.specs.Mft.{mftOf}
-use Rattle.mft_meaning.proofs.More.{Is as MftIs, more-limit as mft-limit}
-use Rattle.run.specs.Run.{End, whole, stopped, Ran, runAt, recordsOf}
-use Rattle.run.proofs.Limit.{Over, run-limit}
+use Rattle.lut_mft_meaning.specs.Answer.{State as Mft·State, answerOf}
+use Rattle.lut_mft_meaning.specs.Layout.{isMft}
+use Rattle.lut_mft_meaning.specs.Mft.{mftOf}
+use Rattle.lut_mft_meaning.proofs.More.{Is as MftIs, more-limit as mft-limit}
+use Rattle.lut_run_meaning.specs.Run.{End, whole, stopped, Ran, runAt, recordsOf}
+use Rattle.lut_run_meaning.proofs.Limit.{Over, run-limit}
 use Rattle.lut_meaning.specs.Abm.{tableOf, recordedOf, judgedOf, withTable, abmOf}
 use Rattle.lut_meaning.specs.Answer.{State, mft, abm, absent, refused, Answer, fromMft, orRefused, leftBy}
 use Rattle.lut_meaning.specs.Layout.{inputs, outputs, planOf, recordsNeeded}

@@ -11,7 +11,7 @@ use borrow.Author.Tests.{ltb-false}
 use Rattle.fields.proofs.Append.{u32-append}
 use Rattle.fields.proofs.Choice.{each, second-fails}
 use Rattle.curve_meaning.specs.declared.Walk.{Walk}
-use Rattle.run.proofs.Runs.{run-count}
+use Rattle.lut_run_meaning.proofs.Runs.{run-count}
 use Rattle.lut_meaning.specs.Layout.{toPcs, inputs, outputs, present, deviceChannels, spaceChannels, aOffset, mOffset, bOffset, aCurves, mCurves, bCurves, planOf, recordsNeeded}
 use Rattle.lut_meaning.specs.Parts.{runsJudged, curvesOf}
 use Rattle.lut_meaning.specs.Judged.{good}

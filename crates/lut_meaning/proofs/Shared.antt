@@ -12,10 +12,10 @@ use Rattle.fields.specs.Tag.{signatureOf}
 use Rattle.fields.specs.declared.Kind.the-variants.{Mab, Mba}
 use Rattle.curve_meaning.specs.Shape.{recordWords}
 use Rattle.curve_meaning.specs.declared.Walk.{Walk}
-use Rattle.mft_meaning.specs.Layout.{isWide, isMft}
-use Rattle.run.specs.Run.{End, whole, stopped, Ran, runAt, recordsOf}
-use Rattle.run.proofs.Runs.{run-count}
-use Rattle.run.proofs.Writing.{records-length, records-append}
+use Rattle.lut_mft_meaning.specs.Layout.{isWide, isMft}
+use Rattle.lut_run_meaning.specs.Run.{End, whole, stopped, Ran, runAt, recordsOf}
+use Rattle.lut_run_meaning.proofs.Runs.{run-count}
+use Rattle.lut_run_meaning.proofs.Writing.{records-length, records-append}
 use Rattle.lut_meaning.specs.Judged.{Judged, good, bad, ended, andThen}
 use Rattle.lut_meaning.specs.Parts.{runA, runM, runB, runsJudged, curvesOf}
 use Rattle.lut_meaning.specs.declared.Plan.{Plan}

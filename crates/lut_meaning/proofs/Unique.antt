@@ -6,7 +6,7 @@ use mathlib.Core.List.{List}
 use Rattle.fields.proofs.Numbers.{nameOf, named}
 use Rattle.fields.proofs.Once.{once}
 use Rattle.curve_meaning.specs.declared.Walk.{Walk}
-use Rattle.mft_meaning.proofs.Unique.{tableFrom}
+use Rattle.lut_mft_meaning.proofs.Unique.{tableFrom}
 use Rattle.lut_meaning.specs.Answer.{Abm, State, mft, abm, absent, refused, Answer, stateFrom, paper}
 use Rattle.lut_meaning.specs.Lut.{Said}
 use Rattle.lut_meaning.specs.declared.AbmTable.{AbmTable}

@@ -4,8 +4,8 @@ use mathlib.Core.Bool.{cond, _&&_}
 use mathlib.Core.List.{List, []}
 use lib.Dec.{ltb, eqb}
 use lib.ListN.{take}
-use Rattle.clut_meaning.specs.Clut.{Seen, is, no, clutOf}
-use Rattle.clut_meaning.specs.Table.{Table, lengthOf}
+use Rattle.lut_clut_meaning.specs.Clut.{Seen, is, no, clutOf}
+use Rattle.lut_clut_meaning.specs.Table.{Table, lengthOf}
 use Rattle.curve_meaning.specs.Shape.{recordWords}
 use Rattle.curve_meaning.specs.declared.Walk.{Walk}
 use Rattle.lut_meaning.specs.Answer.{Abm, abm, Answer, none, refuse, orRefused}

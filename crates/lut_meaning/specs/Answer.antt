@@ -4,7 +4,7 @@ use mathlib.Core.Bool.{Bool}
 use mathlib.Core.List.{List, _++_}
 use lib.ListN.{length, drop, replicate}
 use Rattle.fields.specs.Refusals.{numberOf}
-use Rattle.mft_meaning.specs.Answer.{Fields, State as Mft·State, Answer as Mft·Answer, fieldsFrom}
+use Rattle.lut_mft_meaning.specs.Answer.{Fields, State as Mft·State, Answer as Mft·Answer, fieldsFrom}
 use Rattle.lut_meaning.specs.Judged.{Judged, good, bad}
 use Rattle.lut_meaning.specs.declared.AbmTable.{AbmTable}
 use Rattle.lut_meaning.specs.declared.LutAnswer.{LutAnswer}

@@ -9,8 +9,8 @@ use Rattle.curve_meaning.specs.Cases.{two}
 use Rattle.curve_meaning.specs.Shape.{recordWords}
 use Rattle.curve_meaning.specs.declared.Walk.{Walk}
 use Rattle.curve_meaning.specs.declared.Walk.the-variants.{Crate, Book}
-use Rattle.run.specs.Cases.{single, gamma}
-use Rattle.mft_meaning.specs.Cases.{wideFields, oneToNine}
+use Rattle.lut_run_meaning.specs.Cases.{single, gamma}
+use Rattle.lut_mft_meaning.specs.Cases.{wideFields, oneToNine}
 use Rattle.lut_meaning.specs.Answer.{State, mft, abm, absent, refused, Answer}
 use Rattle.lut_meaning.specs.Lut.{lutOf, leftOf}
 

@@ -1,6 +1,6 @@
 -- Whether a part of a tag is good, or the number of its refusal.
 use Prim.Native.Nat.{ℕ}
-use Rattle.run.specs.Run.{End, whole, stopped}
+use Rattle.lut_run_meaning.specs.Run.{End, whole, stopped}
 
 pub data Judged : Type 0 where
   good : Judged

@@ -10,10 +10,10 @@ use Rattle.fields.specs.Place.{tagAt, countedSize}
 use Rattle.fields.specs.Tag.{signatureOf}
 use Rattle.fields.specs.declared.Kind.the-variants.{Mab, Mba}
 use Rattle.curve_meaning.specs.declared.Walk.{Walk}
-use Rattle.mft_meaning.specs.Answer.{answerOf}
-use Rattle.mft_meaning.specs.Layout.{isMft}
-use Rattle.mft_meaning.specs.Mft.{mftOf}
-use Rattle.run.specs.Run.{recordsOf}
+use Rattle.lut_mft_meaning.specs.Answer.{answerOf}
+use Rattle.lut_mft_meaning.specs.Layout.{isMft}
+use Rattle.lut_mft_meaning.specs.Mft.{mftOf}
+use Rattle.lut_run_meaning.specs.Run.{recordsOf}
 use Rattle.lut_meaning.specs.Abm.{abmOf}
 use Rattle.lut_meaning.specs.Answer.{Answer, refuse, fromMft, paper, leftBy}
 use Rattle.lut_meaning.specs.Layout.{planOf}

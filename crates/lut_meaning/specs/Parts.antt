@@ -5,7 +5,7 @@ use mathlib.Core.List.{List, _++_}
 use lib.Dec.{ltb, eqb}
 use lib.ListN.{length}
 use Rattle.curve_meaning.specs.declared.Walk.{Walk}
-use Rattle.run.specs.Run.{Placed, Ran, runAt}
+use Rattle.lut_run_meaning.specs.Run.{Placed, Ran, runAt}
 use Rattle.lut_meaning.specs.Layout.{matrixOffset}
 use Rattle.lut_meaning.specs.Judged.{Judged, good, bad, ended, andThen}
 use Rattle.lut_meaning.specs.declared.Plan.{Plan}

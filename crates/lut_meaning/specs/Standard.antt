@@ -10,10 +10,10 @@ use Rattle.fields.specs.Bytes.{u32At}
 use Rattle.icc.specs.Elements.{Direction, aToB, bToA, Head, curvesA, curvesMB, precision, entryBytes, MatrixAt, no-matrix, the-matrix, ClutAt, no-clut, the-clut, LutParts, LutCurves}
 use Rattle.icc.specs.Numbers.{Is32, Each32}
 use Rattle.icc.specs.Tables.{nine}
-use Rattle.clut_meaning.specs.Standard.{Taken as ClutTaken}
+use Rattle.lut_clut_meaning.specs.Standard.{Taken as ClutTaken}
 use Rattle.curve_meaning.specs.declared.Walk.{Walk}
 use Rattle.curve_meaning.specs.declared.Walk.the-variants.{Crate, Book}
-use Rattle.run.specs.Standard.{seenOf, AllFit, Passes, recordsTold, NoneEmpty}
+use Rattle.lut_run_meaning.specs.Standard.{seenOf, AllFit, Passes, recordsTold, NoneEmpty}
 use Rattle.lut_meaning.specs.Answer.{Abm, abm, Answer}
 
 -- ---- what is answered

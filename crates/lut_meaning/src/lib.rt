@@ -2,7 +2,7 @@
 // function: the code is in the crate `lut`.
 use fields::InTag;
 use fields::Refusal;
-use mft_meaning::MftTable;
+use lut_mft_meaning::MftTable;
 
 // What an `mAB ` or `mBA ` tag says: its direction and channels, where the data of its colour table lie and the bytes of an entry (zeros
 // without one), and how many curves each run has. The records of the curves stand in the lent slots.

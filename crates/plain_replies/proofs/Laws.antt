@@ -7,7 +7,7 @@ use Rattle.fields.specs.Refusals.{numberOf}
 use Rattle.fields.specs.declared.Refusal.{Refusal}
 use Rattle.lines.specs.Text.{Wrote, number}
 use Rattle.lines.proofs.Writing.{joined}
-use Rattle.reply_meaning.specs.Words.{refusedText}
+use Rattle.answers_meaning.specs.Words.{refusedText}
 
 -- a result v of a reader has the text of the answer that it stands for
 pub arm : {R A : Type 0} (paper : R → A) (text : A → List ℕ) {r v : R} {a : A} {k l : List ℕ} {end : ℕ} → paper r ≡ a → r ≡ v → Wrote k l 0 end (text (paper v)) → Wrote k l 0 end (text a)

@@ -5,11 +5,11 @@ mod smalls;
 
 use curve::Walk;
 use fields::Refusal;
-use jobs::StreamJob;
+use answers_jobs::StreamJob;
 ghost use Rattle.fields.specs.Refusals.{numberOf};
 ghost use Rattle.lines.specs.Text.{Wrote};
-ghost use Rattle.reply_meaning.specs.Plain.{plainOf};
-ghost use Rattle.reply_meaning.specs.Words.{refusedText};
+ghost use Rattle.answers_meaning.specs.Plain.{plainOf};
+ghost use Rattle.answers_meaning.specs.Words.{refusedText};
 
 // Puts a refusal of any reader.
 pub fn put_refused(line: &mut [u8], why: Refusal) -> usize

@@ -1,21 +1,21 @@
 // Readers 4 to 10: the small readers.
-use chad::ChadAnswer;
+use small_chad::ChadAnswer;
 use fields::Entry;
-use jobs::StreamJob;
-use small::CicpAnswer;
-use small::DateAnswer;
-use small::SigAnswer;
+use answers_jobs::StreamJob;
+use small_raw::CicpAnswer;
+use small_raw::DateAnswer;
+use small_raw::SigAnswer;
 use small_xyz::MeasAnswer;
 use small_xyz::ViewAnswer;
 use small_xyz::XyzAnswer;
 ghost use Rattle.small_meaning.specs.Small.{chadOf, sigOf, dateOf, measOf, viewOf, xyzOf, cicpOf};
 ghost use Rattle.lines.specs.Text.{Wrote, numerals, numbers};
-ghost use Rattle.reply_meaning.specs.Plain.{smallText, measured, viewed};
+ghost use Rattle.answers_meaning.specs.Plain.{smallText, measured, viewed};
 
 pub(crate) fn chad(profile: &[u8], job: StreamJob, line: &mut [u8]) -> usize
     ensures { λ r. ⌜ Wrote (now (line .entry)) (now (line .exit)) 0 r (smallText numerals (chadOf (now (profile .entry)) (job .offset) (job .size))) ⌝ }
 {
-    let got = chad::read_chad_tag(profile, Entry(job.offset), job.size);
+    let got = small_chad::read_chad_tag(profile, Entry(job.offset), job.size);
     match got {
         ChadAnswer::Value(m) => {
             let nine = [
@@ -40,7 +40,7 @@ pub(crate) fn chad(profile: &[u8], job: StreamJob, line: &mut [u8]) -> usize
 pub(crate) fn sig(profile: &[u8], job: StreamJob, line: &mut [u8]) -> usize
     ensures { λ r. ⌜ Wrote (now (line .entry)) (now (line .exit)) 0 r (smallText numbers (sigOf (now (profile .entry)) (job .offset) (job .size))) ⌝ }
 {
-    let got = small::read_tech_tag(profile, Entry(job.offset), job.size);
+    let got = small_raw::read_tech_tag(profile, Entry(job.offset), job.size);
     match got {
         SigAnswer::Value { signature } => {
             let one = [signature];
@@ -55,7 +55,7 @@ pub(crate) fn sig(profile: &[u8], job: StreamJob, line: &mut [u8]) -> usize
 pub(crate) fn dtim(profile: &[u8], job: StreamJob, line: &mut [u8]) -> usize
     ensures { λ r. ⌜ Wrote (now (line .entry)) (now (line .exit)) 0 r (smallText numbers (dateOf (now (profile .entry)) (job .offset) (job .size))) ⌝ }
 {
-    let got = small::read_date_time_tag(profile, Entry(job.offset), job.size);
+    let got = small_raw::read_date_time_tag(profile, Entry(job.offset), job.size);
     match got {
         DateAnswer::Value(d) => {
             let twelve = [
@@ -137,7 +137,7 @@ pub(crate) fn xyz(profile: &[u8], job: StreamJob, line: &mut [u8]) -> usize
 pub(crate) fn cicp(profile: &[u8], job: StreamJob, line: &mut [u8]) -> usize
     ensures { λ r. ⌜ Wrote (now (line .entry)) (now (line .exit)) 0 r (smallText numbers (cicpOf (now (profile .entry)) (job .offset) (job .size))) ⌝ }
 {
-    let got = small::read_cicp_tag(profile, Entry(job.offset), job.size);
+    let got = small_raw::read_cicp_tag(profile, Entry(job.offset), job.size);
     match got {
         CicpAnswer::Value(c) => {
             let four = [c.primaries, c.transfer, c.matrix, c.range];

@@ -6,7 +6,7 @@ use fields::InTag;
 use fields::Kind;
 use fields::Place;
 use fields::Refusal;
-pub use mluc::TEXT_RECORD_WORDS;
+pub use text_mluc::TEXT_RECORD_WORDS;
 pub use text_meaning::Description;
 pub use text_meaning::Range;
 pub use text_meaning::TextAnswer;
@@ -96,7 +96,7 @@ fn read_kind(tag: &[u8], slots: &mut [u32]) -> TextAnswer
 {
     match fields::kind_at(tag, InTag(0)) {
         Kind::Text => read_text(tag),
-        Kind::Mluc => mluc::read_mluc(tag, slots),
+        Kind::Mluc => text_mluc::read_mluc(tag, slots),
         Kind::Desc => read_desc(tag),
         _ => TextAnswer::Absent,
     }

@@ -1,5 +1,5 @@
 // What the reader of text answers: the types here, what each call must answer in specs/, and what follows from it in proofs/. No function:
-// the code is in the crates `mluc` and `text`.
+// the code is in the crates `text_mluc` and `text`.
 use fields::InTag;
 use fields::Refusal;
 

@@ -3,7 +3,7 @@
 use borrow.Author.Needs.{needs}
 use borrow.Author.Tests.{ne-eqb}
 use Rattle.lines.proofs.Writing.{nothing}
-use Rattle.reply_meaning.specs.Plain.{plainOf}
+use Rattle.answers_meaning.specs.Plain.{plainOf}
 use Rattle.plain_replies.proofs.answer_plain.Statement.{statement}
 use Rattle.plain_replies.proofs.answer_plain.Tie as tie
 

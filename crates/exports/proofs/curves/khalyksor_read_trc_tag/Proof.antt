@@ -1,8 +1,8 @@
 -- `exports::curves::khalyksor_read_trc_tag` meets its contract: what is told of the reader's result is told of its meaning.
 -- Assumes nothing.
 use mathlib.Core.Path.{ap}
-use Rattle.curve_told.specs.Layout.{curveTold}
-use Rattle.told.proofs.Telling.{no-room, with-room}
+use Rattle.export_curve.specs.Layout.{curveTold}
+use Rattle.export_words.proofs.Telling.{no-room, with-room}
 use borrow.Author.Needs.{needs}
 use Rattle.exports.proofs.curves.khalyksor_read_trc_tag.Statement.{statement}
 use Rattle.exports.proofs.curves.khalyksor_read_trc_tag.Tie as tie

@@ -1,8 +1,8 @@
 -- `exports::tables::khalyksor_entry_at` meets its contract: what is told of the entry is told of its meaning.
 -- Assumes nothing.
 use mathlib.Core.Path.{ap}
-use Rattle.lut_told.specs.Layout.{entryTold}
-use Rattle.told.proofs.Telling.{no-room, with-room}
+use Rattle.export_lut.specs.Layout.{entryTold}
+use Rattle.export_words.proofs.Telling.{no-room, with-room}
 use borrow.Author.Needs.{needs}
 use Rattle.exports.proofs.tables.khalyksor_entry_at.Statement.{statement}
 use Rattle.exports.proofs.tables.khalyksor_entry_at.Tie as tie

@@ -1,8 +1,8 @@
 -- `exports::tables::khalyksor_read_lut_tag` meets its contract: what is told of the reader's result is told of its meaning.
 -- Assumes nothing.
 use mathlib.Core.Path.{ap}
-use Rattle.lut_told.specs.Layout.{lutTold}
-use Rattle.told.proofs.Telling.{no-room-slots, with-room-slots}
+use Rattle.export_lut.specs.Layout.{lutTold}
+use Rattle.export_words.proofs.Telling.{no-room-slots, with-room-slots}
 use borrow.Author.Needs.{needs}
 use Rattle.exports.proofs.tables.khalyksor_read_lut_tag.Statement.{statement}
 use Rattle.exports.proofs.tables.khalyksor_read_lut_tag.Tie as tie

@@ -1,8 +1,8 @@
 -- `exports::texts::khalyksor_read_string_tag` meets its contract: what is told of the reader's result is told of its meaning.
 -- Assumes nothing.
 use mathlib.Core.Path.{ap}
-use Rattle.text_told.specs.Layout.{textTold}
-use Rattle.told.proofs.Telling.{no-room-slots, with-room-slots}
+use Rattle.export_text.specs.Layout.{textTold}
+use Rattle.export_words.proofs.Telling.{no-room-slots, with-room-slots}
 use borrow.Author.Needs.{needs}
 use Rattle.exports.proofs.texts.khalyksor_read_string_tag.Statement.{statement}
 use Rattle.exports.proofs.texts.khalyksor_read_string_tag.Tie as tie

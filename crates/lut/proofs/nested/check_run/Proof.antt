@@ -4,7 +4,7 @@ use Prim.Native.Nat.{_-_, _≤_}
 use native.Mathlib.Omega.{arith}
 use mathlib.Core.Path.{_≡_}
 use borrow.Author.Needs.{needs}
-use Rattle.run.specs.Run.{runAt}
+use Rattle.lut_run_meaning.specs.Run.{runAt}
 use Rattle.lut.proofs.RunLaws.{near, run-start, run-stop, run-again, run-done}
 use Rattle.lut.proofs.nested.check_run.Statement.{statement}
 use Rattle.lut.proofs.nested.check_run.Tie as tie

@@ -1,7 +1,7 @@
 -- `lut::nested::next_curve` meets its contract: the sum is raised to a multiple of 4.
 -- Assumes nothing.
 use mathlib.Core.Path.{refl}
-use Rattle.run.specs.Run.{raised}
+use Rattle.lut_run_meaning.specs.Run.{raised}
 use borrow.Author.Needs.{needs}
 use Rattle.lut.proofs.nested.next_curve.Statement.{statement}
 use Rattle.lut.proofs.nested.next_curve.Tie as tie

@@ -2,7 +2,7 @@
 -- Assumes nothing.
 use Prim.Native.Nat.{_-_}
 use borrow.Author.Needs.{needs}
-use Rattle.run.proofs.Writing.{Writing, begins, ends}
+use Rattle.lut_run_meaning.proofs.Writing.{Writing, begins, ends}
 use Rattle.lut.proofs.RunLaws.{curve-begins, data-fits, data-counts, slot-there, write-near, write-turn, write-never}
 use Rattle.lut.proofs.nested.write_run.Statement.{statement}
 use Rattle.lut.proofs.nested.write_run.Tie as tie

@@ -3,7 +3,7 @@
 use borrow.Author.Needs.{needs}
 use Rattle.curve_meaning.specs.Answer.{paper}
 use Rattle.lines.proofs.Writing.{joined}
-use Rattle.reply_meaning.specs.Plain.{curveText}
+use Rattle.answers_meaning.specs.Plain.{curveText}
 use Rattle.plain_replies.proofs.Laws.{arm}
 use Rattle.plain_replies.proofs.curves.answer.Statement.{statement}
 use Rattle.plain_replies.proofs.curves.answer.Tie as tie

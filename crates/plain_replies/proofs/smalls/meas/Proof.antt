@@ -3,7 +3,7 @@
 use borrow.Author.Needs.{needs}
 use Rattle.small_meaning.specs.Answer.{paperMeas}
 use Rattle.lines.proofs.Writing.{joined}
-use Rattle.reply_meaning.specs.Plain.{smallText, measured}
+use Rattle.answers_meaning.specs.Plain.{smallText, measured}
 use Rattle.plain_replies.proofs.Laws.{arm}
 use Rattle.plain_replies.proofs.smalls.meas.Statement.{statement}
 use Rattle.plain_replies.proofs.smalls.meas.Tie as tie

@@ -3,7 +3,7 @@
 use borrow.Author.Needs.{needs}
 use Rattle.small_meaning.specs.Answer.{paperView}
 use Rattle.lines.proofs.Writing.{joined}
-use Rattle.reply_meaning.specs.Plain.{smallText, viewed}
+use Rattle.answers_meaning.specs.Plain.{smallText, viewed}
 use Rattle.plain_replies.proofs.Laws.{arm}
 use Rattle.plain_replies.proofs.smalls.view.Statement.{statement}
 use Rattle.plain_replies.proofs.smalls.view.Tie as tie

@@ -1,0 +1,47 @@
+-- `export_text::tell_text` meets its contract: the words are the answer's, or the status tells why there are none.
+-- Assumes nothing.
+use mathlib.Core.Path.{refl}
+use Rattle.fields.specs.Tag.{signatureOf}
+use Rattle.text_meaning.specs.Answer.{paper}
+use Rattle.text_meaning.specs.declared.TextAnswer.{TextAnswer}
+use Rattle.export_text.specs.Layout.{textTold}
+use Rattle.export_words.proofs.Telling.{tells}
+use borrow.Author.Needs.{needs}
+use Rattle.export_text.proofs.tell_text.Statement.{statement}
+use Rattle.export_text.proofs.tell_text.Tie as tie
+
+returns : tie.Need-returns
+returns c = tells (λ (a : TextAnswer). textTold (paper a)) (c .before .before .before .before .before .got .given .1) record { status-is = refl; out-is = c .before .before .put-text .ensures }
+
+returns-2 : tie.Need-returns-2
+returns-2 c = tells (λ (a : TextAnswer). textTold (paper a)) (c .before .before .before .before .before .got2 .given .1) record { status-is = refl; out-is = c .before .before .put-desc .ensures }
+
+returns-3 : tie.Need-returns-3
+unfolding signatureOf
+returns-3 c = tells (λ (a : TextAnswer). textTold (paper a)) (c .before .before .before .before .before .before .got3 .given .1) record { status-is = refl; out-is = c .before .before .put-words .ensures }
+
+returns-5 : tie.Need-returns-5
+returns-5 c = tells (λ (a : TextAnswer). textTold (paper a)) (c .before .before .got4 .given .1) record { status-is = c .number .ensures; out-is = refl }
+
+pub tell-text-spec : {M : Type 1} → statement M
+tell-text-spec =
+    tie.close
+    (tie.spec
+    (λ c. search needs)
+    (λ c κs. search needs)
+    (λ c. search needs)
+    (λ c κs. search needs)
+    (λ c. search needs)
+    (λ c. search needs)
+    (λ c κs. search needs)
+    (λ c. search needs)
+    (λ c. search needs)
+    (λ c κs. search needs)
+    (λ c. search needs)
+    returns
+    (λ c. search needs)
+    returns-2
+    (λ c. search needs)
+    returns-3
+    (λ c. search needs)
+    returns-5)

@@ -1,0 +1,138 @@
+// The colour table of an `mAB ` or `mBA ` tag: its shape. Carries over the CLUT part of read_lut_abm_type of moxcms.
+pub use lut_clut_meaning::ClutAnswer;
+pub use lut_clut_meaning::ColourTable;
+use fields::InTag;
+use fields::Refusal;
+ghost use mathlib.Core.Path.{_≡_};
+ghost use Prim.Native.Nat.{_*_, min};
+ghost use Rattle.lut_clut_meaning.specs.Answer.{paper, toldOf};
+ghost use Rattle.lut_clut_meaning.specs.Clut.{some, isFlat, tableAt, shapeOf, clutOf};
+ghost use Rattle.lut_clut.specs.Counts.{countsOf, Counted};
+
+// The entries that a table may have, its output channels counted.
+const MOST_ENTRIES: u32 = 10_000_000;
+
+// The points of a grid and the entries on it, or a product on the way that passes 32 bits.
+enum Counts {
+    Fit { points: u32, entries: u32 },
+    Over,
+}
+
+// The product, which 64 bits hold.
+fn times(n: u32, by: u8) -> u64
+    ensures { λ r. ⌜ r ≡ n * by ⌝ }
+{
+    (n as u64) * (by as u64)
+}
+
+// How many of the sixteen grid bytes are in use: one for each input channel.
+pub fn dimensions(inputs: u8) -> usize
+    ensures { λ r. ⌜ r ≡ min inputs 16 ⌝ }
+{
+    if inputs < 16 { inputs as usize } else { 16 }
+}
+
+// The product of the grid bytes, in order, then the output channels.
+fn count(grid: &[u8], outputs: u8) -> Counts
+    ensures { λ r. ⌜ r ≡ countsOf (now (grid .entry)) outputs ⌝ }
+{
+    let mut points: u32 = 1;
+    let mut i = 0;
+    while i < grid.len() {
+        let next = times(points, grid[i]);
+        if 0xFFFF_FFFF < next {
+            return Counts::Over;
+        }
+        points = next as u32;
+        i += 1;
+    }
+    let entries = times(points, outputs);
+    if 0xFFFF_FFFF < entries {
+        return Counts::Over;
+    }
+    Counts::Fit {
+        points,
+        entries: entries as u32,
+    }
+}
+
+// Whether a dimension is below 2.
+fn has_flat(grid: &[u8]) -> bool
+    ensures { λ r. ⌜ r ≡ some isFlat (now (grid .entry)) ⌝ }
+{
+    let mut i = 0;
+    while i < grid.len() {
+        if grid[i] < 2 {
+            return true;
+        }
+        i += 1;
+    }
+    false
+}
+
+// The table of a grid whose entries are counted: its dimensions, its last point, the bytes of an entry and the data.
+fn read_shape(
+    tag: &[u8],
+    at: InTag,
+    grid: &[u8],
+    outputs: u8,
+    points: u32,
+    entries: u32,
+) -> ClutAnswer
+    requires { ⌜ Counted (now tag) (at .0) (now grid) outputs points entries ⌝ }
+    ensures { λ r. ⌜ paper r ≡ toldOf (shapeOf (now (tag .entry)) (tableAt (now (tag .entry)) (at .0) (now (grid .entry)) outputs)) ⌝ }
+{
+    if has_flat(grid) {
+        return ClutAnswer::Refused(Refusal::GridDimension);
+    }
+    // The last grid point's number is one less than the points.
+    if (entries as u64) <= times(points - 1, outputs) {
+        return ClutAnswer::Refused(Refusal::LastPoint);
+    }
+    let entry_size = fields::u8_at(tag, InTag(at.0 + 16));
+    if entry_size < 1 {
+        return ClutAnswer::Refused(Refusal::EntrySize);
+    }
+    if 2 < entry_size {
+        return ClutAnswer::Refused(Refusal::EntrySize);
+    }
+    let start = at.0 + 20;
+    let bytes = times(entries, entry_size);
+    if (tag.len() as u64) - start < bytes {
+        return ClutAnswer::Refused(Refusal::TagTooShort);
+    }
+    ClutAnswer::Value(ColourTable {
+        points,
+        start: InTag(start),
+        length: bytes as u32,
+        entry_size,
+    })
+}
+
+// The colour table at `at` of a tag with so many input and output channels. No sum wraps, whatever `at` is: the tag's length less 20
+// is held against it first.
+pub fn read_clut(tag: &[u8], at: InTag, inputs: u8, outputs: u8) -> ClutAnswer
+    ensures { λ r. ⌜ paper r ≡ toldOf (clutOf (now (tag .entry)) (at .0) inputs outputs) ⌝ }
+{
+    let len = tag.len() as u64;
+    if len < 20 {
+        return ClutAnswer::Refused(Refusal::TagTooShort);
+    }
+    if len - 20 < at.0 {
+        return ClutAnswer::Refused(Refusal::TagTooShort);
+    }
+    let from = at.0 as usize;
+    let to = from + dimensions(inputs);
+    let grid = &tag[from..to];
+    let counts = count(grid, outputs);
+    let Counts::Fit { points, entries } = counts else {
+        return ClutAnswer::Refused(Refusal::GridOverflow);
+    };
+    if entries == 0 {
+        return ClutAnswer::Refused(Refusal::GridZero);
+    }
+    if MOST_ENTRIES < entries {
+        return ClutAnswer::Refused(Refusal::GridTooLarge);
+    }
+    read_shape(tag, at, grid, outputs, points, entries)
+}

@@ -1,0 +1,71 @@
+-- The colour table of `mAB ` and `mBA `: what each call must answer. ICC.1:2022 lays it out in lutAToBType (10.12) and lutBToAType
+-- (10.13); from its first byte, `at` of the tag t, it has
+--
+--    0 to 15  the grid points of each dimension, a byte each
+--   16        the bytes of an entry, 1 or 2
+--   17 to 19  reserved, 0
+--   20 on     the entries
+use Prim.Native.Nat.{ℕ, _+_, _*_, _^_, min}
+use mathlib.Core.Bool.{Bool, false, cond, _||_}
+use mathlib.Core.List.{List, [], _∷_, _++_}
+use lib.Dec.{ltb, leb, eqb}
+use lib.ListN.{length, getD, take, drop}
+use Rattle.lut_clut_meaning.specs.Table.{Table, entriesOf, lengthOf, lastOf}
+
+-- the grid in use: of the sixteen bytes, one for each input channel
+abbrev pub gridAt : List ℕ → ℕ → ℕ → List ℕ
+gridAt t at inputs = take (min inputs 16) (drop at t)
+
+-- the table there, on a grid
+abbrev pub tableAt : List ℕ → ℕ → List ℕ → ℕ → Table
+tableAt t at grid outputs = record { grid = grid; outputs = outputs; start = at + 20; size = getD t (at + 16) 0 }
+
+-- some element passes the test
+unfoldable pub some : (ℕ → Bool) → List ℕ → Bool
+some f [] = false
+some f (x ∷ xs) = f x || some f xs
+
+-- the partial products: p, p times the first, and so on
+unfoldable pub partials : ℕ → List ℕ → List ℕ
+partials p [] = p ∷ []
+partials p (x ∷ xs) = p ∷ partials (p * x) xs
+
+-- past 32 bits
+abbrev pub isOver : ℕ → Bool
+isOver p = leb (2 ^ 32) p
+
+-- a partial product over the grid, in order, then the output channels, passes 32 bits
+abbrev pub overflows : List ℕ → ℕ → Bool
+overflows grid outputs = some isOver (partials 1 (grid ++ (outputs ∷ [])))
+
+-- a dimension below 2
+abbrev pub isFlat : ℕ → Bool
+isFlat g = ltb g 2
+
+-- the entries that a table may have
+abbrev pub mostEntries : ℕ
+mostEntries = 10000000
+
+-- what the bytes of a colour table say: the table, or the number of the refusal
+pub data Seen : Type 0 where
+  is : Table → Seen
+  no : ℕ → Seen
+
+-- a table whose entries are counted: its dimensions, its last point, the bytes of an entry and the data
+unfoldable pub shapeOf : List ℕ → Table → Seen
+shapeOf t table =
+    cond (some isFlat (table .grid)) (no 7) (
+    cond (leb (entriesOf table) (lastOf (table .grid) * table .outputs)) (no 18) (
+    cond (ltb (table .size) 1 || ltb 2 (table .size)) (no 8) (
+    cond (ltb (length t) (table .start + lengthOf table)) (no 2) (
+    is table))))
+
+-- the colour table at `at` of a tag with so many input and output channels
+unfoldable pub clutOf : List ℕ → ℕ → ℕ → ℕ → Seen
+clutOf t at inputs outputs =
+    let table = tableAt t at (gridAt t at inputs) outputs in
+    cond (ltb (length t) (table .start)) (no 2) (
+    cond (overflows (table .grid) outputs) (no 4) (
+    cond (eqb (entriesOf table) 0) (no 5) (
+    cond (ltb mostEntries (entriesOf table)) (no 6) (
+    shapeOf t table))))

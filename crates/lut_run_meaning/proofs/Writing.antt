@@ -1,0 +1,93 @@
+-- The records of a run, and what holds while a whole run is written into lent slots.
+-- Assumes nothing.
+use Prim.Native.Nat.{ℕ, suc, _+_, _-_, _*_, _≤_, _<_}
+use native.Mathlib.Omega.{arith}
+use native.Mathlib.Nat.{sub-zero, zero-add}
+use mathlib.Core.Path.{_≡_, refl, sym, _∙_, ap}
+use mathlib.Core.List.{List, [], _∷_, _++_, append-assoc}
+use lib.ListN.{length, drop, length-append}
+use lib.Seq.{sets, sets-eq, length-sets}
+use Rattle.fields.proofs.Stores.{sets-append}
+use Rattle.curve_meaning.specs.Shape.{Shape, Seen, is, no, empty, table, para, stepOf, recordWords, wordsOf}
+use Rattle.curve_meaning.specs.declared.Walk.{Walk}
+use Rattle.lut_run_meaning.specs.Run.{Placed, whole, Ran, placed, first, raised, entryAt, runAt, recordsOf}
+use Rattle.lut_run_meaning.proofs.Runs.{run-turn, run-count}
+
+-- ---- records
+
+pub words-length : (start : ℕ) (s : Shape) → length (wordsOf start s) ≡ recordWords
+unfolding wordsOf
+words-length start empty = refl
+words-length start (table n) = refl
+words-length start (para type ps) = refl
+
+pub records-length : (cs : List Placed) → length (recordsOf cs) ≡ length cs * recordWords
+unfolding recordsOf
+records-length [] = refl
+records-length (c ∷ cs) = simp length-append (omega (arith, words-length (c .at + 12) (c .shape), records-length cs))
+
+pub records-append : (cs ds : List Placed) → recordsOf (cs ++ ds) ≡ recordsOf cs ++ recordsOf ds
+unfolding recordsOf
+records-append [] ds = refl
+records-append (c ∷ cs) ds = rw (records-append cs ds) (sym (append-assoc (wordsOf (c .at + 12) (c .shape)) (recordsOf cs) (recordsOf ds)))
+
+-- ---- the loop that writes
+
+module _ (walk : Walk) (limit : ℕ) (t : List ℕ) (o n : ℕ) (s₀ : List ℕ) where
+  -- i records are written; the rest of the run is whole, and makes of the slots what the whole run makes of them
+  pub record Writing (s : List ℕ) (at i : ℕ) : Type 0 where
+    pub within : i ≤ n
+    pub long : length s ≡ length s₀
+    pub good : runAt walk limit t at (n - i) .end ≡ whole
+    pub left : sets s (i * recordWords) (recordsOf (runAt walk limit t at (n - i) .curves)) ≡ sets s₀ 0 (recordsOf (runAt walk limit t o n .curves))
+
+  pub begins : runAt walk limit t o n .end ≡ whole → Writing s₀ o 0
+  begins g = record { within = omega arith; long = refl; good = rw sub-zero g; left = rw sub-zero }
+
+  module _ (s : List ℕ) (at i : ℕ) (w : Writing s at i) (l : i < n) where
+    less : n - i ≡ suc (n - (i + 1))
+    less = omega arith
+
+    -- no refusal is met
+    never : (m : ℕ) → entryAt limit t at ≡ no m → ⊥
+    unfolding runAt
+    never m e =
+        let g : runAt walk limit t at (suc (n - (i + 1))) .end ≡ whole = rw less at (w .good) in
+        let f = rw e at g in
+        let z : _≡_ {A = ℕ} 0 1 = cc in omega arith
+
+    pub record Next : Type 0 where
+      pub shape : Shape
+      pub seen : entryAt limit t at ≡ is shape
+
+    -- a curve is next
+    pub next-is : Next
+    next-is = by (entryAt limit t at) refl
+      where
+        by : (x : Seen) → entryAt limit t at ≡ x → Next
+        by (is s) e = record { shape = s; seen = e }
+        by (no m) e = absurd (never m e)
+
+    pub turns : (s′ : List ℕ) (shape : Shape) → entryAt limit t at ≡ is shape → s′ ≡ sets s (i * recordWords) (wordsOf (at + 12) shape) → Writing s′ (raised (at + stepOf walk shape)) (i + 1)
+    unfolding recordsOf
+    turns s′ shape seen p =
+        let ws : List ℕ = wordsOf (at + 12) shape in
+        let e : runAt walk limit t at (n - i) ≡ first (placed at shape) (runAt walk limit t (raised (at + stepOf walk shape)) (n - (i + 1))) = ap (runAt walk limit t at) less ∙ run-turn walk limit t at (n - (i + 1)) shape seen in
+        let k : (i + 1) * recordWords ≡ i * recordWords + length ws = omega (arith, words-length (at + 12) shape) in
+        let rest : List ℕ = recordsOf (runAt walk limit t (raised (at + stepOf walk shape)) (n - (i + 1)) .curves) in
+        let f : recordsOf (runAt walk limit t at (n - i) .curves) ≡ ws ++ rest = ap (λ (r : Ran). recordsOf (r .curves)) e in
+        record {
+          within = omega arith;
+          long = ap length p ∙ length-sets s (i * recordWords) ws ∙ w .long;
+          good = sym (ap (λ (r : Ran). r .end) e) ∙ w .good;
+          left = ap (λ (y : List ℕ). sets y ((i + 1) * recordWords) rest) p ∙ rw (k, ← sets-append ws rest s (i * recordWords), ← f) (w .left);
+        }
+
+  pub ends : (s : List ℕ) (at i : ℕ) → Writing s at i → n ≤ i → n * recordWords ≤ length s₀ → runAt walk limit t o n .end ≡ whole → s ≡ recordsOf (runAt walk limit t o n .curves) ++ drop (n * recordWords) s₀
+  unfolding recordsOf runAt
+  ends s at i w l room g =
+      let all : List ℕ = recordsOf (runAt walk limit t o n .curves) in
+      let e : length all ≡ n * recordWords = records-length (runAt walk limit t o n .curves) ∙ ap (λ (k : ℕ). k * recordWords) (run-count walk limit t o n g) in
+      let z : n - i ≡ 0 = omega arith in
+      let d : s ≡ sets s₀ 0 all = rw z at (w .left) in
+      d ∙ sets-eq all s₀ 0 (omega arith) ∙ rw (zero-add, e)

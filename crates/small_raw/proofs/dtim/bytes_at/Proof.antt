@@ -1,0 +1,24 @@
+-- `small_raw::dtim::bytes_at` meets its contract: its twelve bytes are those of the layout.
+-- Assumes nothing.
+use Rattle.small_raw.proofs.Laws.{twelve-are}
+use borrow.Author.Needs.{needs}
+use Rattle.small_raw.proofs.dtim.bytes_at.Statement.{statement}
+use Rattle.small_raw.proofs.dtim.bytes_at.Tie as tie
+
+pub bytes-at-spec : {M : Type 1} → statement M
+bytes-at-spec =
+    tie.close
+    (tie.spec
+    (λ c κs. search needs)
+    (λ c κs. search needs)
+    (λ c κs. search needs)
+    (λ c κs. search needs)
+    (λ c κs. search needs)
+    (λ c κs. search needs)
+    (λ c κs. search needs)
+    (λ c κs. search needs)
+    (λ c κs. search needs)
+    (λ c κs. search needs)
+    (λ c κs. search needs)
+    (λ c κs. search needs)
+    (λ c. search (needs, twelve-are)))

@@ -1,0 +1,21 @@
+-- What the code's records, faults and verdicts stand for.
+use Rattle.text_meaning.specs.Mluc.{Localized, Fault, header, string, Seen, is, no, End, whole, stopped}
+use Rattle.text_mluc.specs.declared.Fault.{Fault as CodeFault}
+use Rattle.text_mluc.specs.declared.Item.{Item}
+use Rattle.text_mluc.specs.declared.TextRecord.{TextRecord}
+use Rattle.text_mluc.specs.declared.Verdict.{Verdict}
+
+abbrev pub recordFrom : TextRecord → Localized
+recordFrom r = record { language = r .language; country = r .country; start = r .start; bytes = r .length }
+
+abbrev pub faultFrom : CodeFault → Fault
+faultFrom CodeFault.Header = header
+faultFrom CodeFault.String = string
+
+abbrev pub seenFrom : Item → Seen
+seenFrom (Item.Record r) = is (recordFrom r)
+seenFrom (Item.No f) = no (faultFrom f)
+
+abbrev pub endFrom : Verdict → End
+endFrom Verdict.Whole = whole
+endFrom (Verdict.Stopped f) = stopped (faultFrom f)
