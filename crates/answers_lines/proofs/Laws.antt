@@ -18,14 +18,14 @@ use Rattle.lines.specs.Text.{Wrote}
 use Rattle.lines.proofs.Writing.{joined, nothing}
 use Rattle.curve_meaning.specs.declared.Walk.{Walk}
 use Rattle.curve_meaning.specs.declared.Walk.the-variants.{Crate, Book}
-use Rattle.lut_meaning.specs.Answer.{refuse, stateFrom, paper}
-use Rattle.lut_meaning.specs.Lut.{tagOf, lutOf, Said as Lut·Said}
+use Rattle.lut_meaning.specs.Answer.{refuse, stateFrom, inNumbers}
+use Rattle.lut_meaning.specs.Lut.{tagOf, lutOf, AnswerAndSlots as Lut·AnswerAndSlots}
 use Rattle.lut_meaning.specs.declared.Lut.{Lut}
 use Rattle.lut_meaning.specs.declared.LutAnswer.{LutAnswer}
-use Rattle.text_meaning.specs.Answer.{paper as Text·paper}
-use Rattle.text_meaning.specs.Text.{stringOf, tagOf as Text·tagOf, Said as Text·Said}
+use Rattle.text_meaning.specs.Answer.{inNumbers as Text·inNumbers}
+use Rattle.text_meaning.specs.Text.{stringOf, tagOf as Text·tagOf, AnswerAndSlots as Text·AnswerAndSlots}
 use Rattle.text_meaning.specs.declared.TextAnswer.{TextAnswer}
-use Rattle.lut_view_meaning.specs.Answer.{Told}
+use Rattle.lut_view_meaning.specs.Answer.{Answer}
 use Rattle.lut_view_meaning.specs.View.{tableBy, numbersOf, entryOf}
 use Rattle.lut_view_meaning.specs.declared.TableNumbers.{TableNumbers}
 use Rattle.answers_jobs.specs.Stream.{tailOf}
@@ -55,10 +55,10 @@ module _ (n : ℕ) (l : List ℕ) (e : length l ≡ n) where
 -- ---- answers with the lent words behind them
 
 module _ (job : StreamJob) (p w : List ℕ) {k l m after : List ℕ} {e r : ℕ} where
-  pub lut-said : (walk : Walk) {got : Lut} → Lut·Said walk (job .entries) (tagOf p (job .offset) (job .size)) (lutAnswer job p w walk) got w after → Wrote k l 0 e (lutText (paper got)) → Wrote l m e r (lentText after) → Said (lutReply job p w walk) k m after r
+  pub lut-said : (walk : Walk) {got : Lut} → Lut·AnswerAndSlots walk (job .entries) (tagOf p (job .offset) (job .size)) (lutAnswer job p w walk) got w after → Wrote k l 0 e (lutText (inNumbers got)) → Wrote l m e r (lentText after) → Said (lutReply job p w walk) k m after r
   lut-said walk s u v = record { written = rw (← s .left-is, ← s .answer-is) (joined u v); left-is = s .left-is }
 
-  pub string-said : {got : TextAnswer} → Text·Said (Text·tagOf p (job .offset) (job .size)) (stringOf p (job .offset) (job .size) (length w)) got w after → Wrote k l 0 e (stringText (Text·paper got)) → Wrote l m e r (lentText after) → Said (stringReply job p w) k m after r
+  pub string-said : {got : TextAnswer} → Text·AnswerAndSlots (Text·tagOf p (job .offset) (job .size)) (stringOf p (job .offset) (job .size) (length w)) got w after → Wrote k l 0 e (stringText (Text·inNumbers got)) → Wrote l m e r (lentText after) → Said (stringReply job p w) k m after r
   string-said s u v = record { written = rw (← s .left-is, ← s .answer-is) (joined u v); left-is = s .left-is }
 
 -- ---- the table view
@@ -80,7 +80,7 @@ tail-room reader b index n channel t f =
     P : StreamTail → Type 0
     P x = x ≡ StreamTail.Index (StreamIndex.At n channel) → 1 + n ≤ length b
 
-pub entry-is : (answer : LutAnswer) (t b : List ℕ) (index : StreamIndex) (n channel : ℕ) (v : TableNumbers) (a : Told) → index ≡ StreamIndex.At n channel → v ≡ numbersOf (stateFrom answer) → a ≡ entryOf t (tableBy t v) (take ((1 + n) - 1) (drop 1 b)) channel → a ≡ entryAt (stateFrom answer) t b index
+pub entry-is : (answer : LutAnswer) (t b : List ℕ) (index : StreamIndex) (n channel : ℕ) (v : TableNumbers) (a : Answer) → index ≡ StreamIndex.At n channel → v ≡ numbersOf (stateFrom answer) → a ≡ entryOf t (tableBy t v) (take ((1 + n) - 1) (drop 1 b)) channel → a ≡ entryAt (stateFrom answer) t b index
 unfolding entryAt
 entry-is answer t b index n channel v a e f h = h ∙ rw (e, f, part-is b 1 n)
 
@@ -96,7 +96,7 @@ module _ (job : StreamJob) (p : List ℕ) (place : Place) (end : ℕ) (c : end �
   pub same-tag : (from to : ℕ) → place ≡ In from to → take (to - from) (drop from p) ≡ tagOf p (job .offset) (job .size)
   same-tag from to e = let i = inside _ _ _ h e in rw (i .from-is, i .to-is, part-is p (job .offset) end, c)
 
-pub view-said : (job : StreamJob) (p w b : List ℕ) (index : StreamIndex) {k l t after : List ℕ} {r : ℕ} {got : Lut} → Lut·Said Crate (job .entries) (tagOf p (job .offset) (job .size)) (lutAnswer job p w Crate) got w after → t ≡ tagOf p (job .offset) (job .size) → Wrote k l 0 r (viewText (stateFrom (got .answer)) t b index) → Said (viewReply job p w b index) k l after r
+pub view-said : (job : StreamJob) (p w b : List ℕ) (index : StreamIndex) {k l t after : List ℕ} {r : ℕ} {got : Lut} → Lut·AnswerAndSlots Crate (job .entries) (tagOf p (job .offset) (job .size)) (lutAnswer job p w Crate) got w after → t ≡ tagOf p (job .offset) (job .size) → Wrote k l 0 r (viewText (stateFrom (got .answer)) t b index) → Said (viewReply job p w b index) k l after r
 view-said job p w b index s g u = record { written = rw (← s .answer-is) (rw g at u); left-is = s .left-is }
 
 -- ---- by the reader

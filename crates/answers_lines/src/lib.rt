@@ -3,10 +3,10 @@ mod tables;
 mod texts;
 mod told;
 
-use curve_meaning::Walk;
 use answers_jobs::StreamIndex;
 use answers_jobs::StreamJob;
 use answers_jobs::StreamTail;
+use curve_meaning::Walk;
 ghost use mathlib.Core.Path.{_≡_};
 ghost use lib.ListN.{length};
 ghost use Rattle.answers_jobs.specs.Stream.{tailOf};

@@ -1,12 +1,12 @@
 // Readers 1 and 11: lookup tables, with the lent words behind each answer; and reader 13, one entry of a table.
 use crate::told;
+use answers_jobs::StreamIndex;
+use answers_jobs::StreamJob;
 use curve_meaning::Walk;
 use fields::Entry;
 use fields::InTag;
 use fields::Place;
 use fields::Refusal;
-use answers_jobs::StreamIndex;
-use answers_jobs::StreamJob;
 use lut::AbmTable;
 use lut::LutAnswer;
 use lut_mft_meaning::MftTable;

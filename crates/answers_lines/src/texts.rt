@@ -1,11 +1,11 @@
 // Reader 3: text, with the lent words behind each answer.
 use crate::told;
-use fields::Entry;
 use answers_jobs::StreamJob;
+use fields::Entry;
 use text::Description;
 use text::TextAnswer;
 ghost use Rattle.lines.specs.Text.{Wrote};
-ghost use Rattle.text_meaning.specs.Answer.{paper, desc, spanFrom, unicodeFrom};
+ghost use Rattle.text_meaning.specs.Answer.{inNumbers, desc, spanFrom, unicodeFrom};
 ghost use Rattle.answers_meaning.specs.Reply.{stringReply, Said};
 ghost use Rattle.answers_meaning.specs.Texts.{stringText};
 
@@ -21,7 +21,7 @@ fn put_description(line: &mut [u8], d: Description) -> usize
 }
 
 fn put_answer(line: &mut [u8], got: TextAnswer) -> usize
-    ensures { λ r. ⌜ Wrote (now (line .entry)) (now (line .exit)) 0 r (stringText (paper got)) ⌝ }
+    ensures { λ r. ⌜ Wrote (now (line .entry)) (now (line .exit)) 0 r (stringText (inNumbers got)) ⌝ }
 {
     match got {
         TextAnswer::Text(t) => {

@@ -9,9 +9,9 @@ use Rattle.lines.specs.Text.{Wrote}
 use Rattle.curve_meaning.specs.declared.Walk.{Walk}
 use Rattle.curve_meaning.specs.declared.Walk.the-variants.{Crate, Book}
 use Rattle.lut_meaning.specs.Answer.{State, Answer}
-use Rattle.lut_meaning.specs.Lut.{tagOf, lutOf, leftOf}
-use Rattle.text_meaning.specs.Text.{stringOf, leftOf as Text·leftOf}
-use Rattle.lut_view_meaning.specs.Answer.{Told}
+use Rattle.lut_meaning.specs.Lut.{tagOf, lutOf, slotsAfter}
+use Rattle.text_meaning.specs.Text.{stringOf, slotsAfter as Text·slotsAfter}
+use Rattle.lut_view_meaning.specs.Answer.{Answer}
 use Rattle.lut_view_meaning.specs.View.{tableBy, numbersOf, entryOf}
 use Rattle.answers_jobs.specs.Stream.{tailOf}
 use Rattle.answers_jobs.specs.declared.StreamIndex.{StreamIndex}
@@ -45,10 +45,10 @@ abbrev pub lent : List ℕ → List ℕ → Reply
 lent text left = record { text = text ++ lentText left; left = left }
 
 -- the entry at a grid index of the table that was answered; one of more than sixteen coordinates is nowhere
-unfoldable pub entryAt : State → List ℕ → List ℕ → StreamIndex → Told
+unfoldable pub entryAt : State → List ℕ → List ℕ → StreamIndex → Answer
 entryAt s t behind (StreamIndex.At n channel) = entryOf t (tableBy t (numbersOf s)) (take n (drop 1 behind)) channel
-entryAt s t behind StreamIndex.TooMany = Told.absent
-entryAt s t behind StreamIndex.Nothing = Told.absent
+entryAt s t behind StreamIndex.TooMany = Answer.absent
+entryAt s t behind StreamIndex.Nothing = Answer.absent
 
 -- where the reader of the table is absent or refuses, that is the answer
 unfoldable pub viewText : State → List ℕ → List ℕ → StreamIndex → List ℕ
@@ -66,7 +66,7 @@ module _ (job : StreamJob) (profile words : List ℕ) where
   lutAnswer walk = lutOf walk (job .entries) (job .points) profile (job .offset) (job .size) (length words)
 
   abbrev pub lutLeft : Walk → List ℕ
-  lutLeft walk = leftOf walk (job .entries) (job .points) profile (job .offset) (job .size) words
+  lutLeft walk = slotsAfter walk (job .entries) (job .points) profile (job .offset) (job .size) words
 
   abbrev pub lutReply : Walk → Reply
   lutReply walk = lent (lutText (lutAnswer walk)) (lutLeft walk)
@@ -74,7 +74,7 @@ module _ (job : StreamJob) (profile words : List ℕ) where
   -- text
   abbrev pub stringReply : Reply
   stringReply =
-      lent (stringText (stringOf profile (job .offset) (job .size) (length words))) (Text·leftOf profile (job .offset) (job .size) words)
+      lent (stringText (stringOf profile (job .offset) (job .size) (length words))) (Text·slotsAfter profile (job .offset) (job .size) words)
 
   -- one entry of a table that is read on the crate walk
   abbrev pub viewReply : List ℕ → StreamIndex → Reply

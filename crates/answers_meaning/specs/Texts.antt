@@ -4,7 +4,7 @@ use mathlib.Core.List.{List, [], _∷_, _++_}
 use Rattle.lines.specs.Text.{number, numerals, numbers}
 use Rattle.lut_meaning.specs.Answer.{State, Answer as Lut·Answer}
 use Rattle.text_meaning.specs.Answer.{Answer as Text·Answer}
-use Rattle.lut_view_meaning.specs.Answer.{Told}
+use Rattle.lut_view_meaning.specs.Answer.{Answer}
 use Rattle.answers_meaning.specs.Words.{valueWord, absentWord, refusedText, textWord, descWord, mlucWord, mftWord, abmWord, bar}
 
 -- a start and a length
@@ -35,9 +35,9 @@ stringText Text·Answer.absent = absentWord
 stringText (Text·Answer.refused n) = refusedText n
 
 -- the table view
-unfoldable pub entryText : Told → List ℕ
-entryText (Told.value n) = valueWord ++ number 0x20 n
-entryText Told.absent = absentWord
+unfoldable pub entryText : Answer → List ℕ
+entryText (Answer.value n) = valueWord ++ number 0x20 n
+entryText Answer.absent = absentWord
 
 -- the lent words, as they are after the call
 unfoldable pub lentText : List ℕ → List ℕ

@@ -10,9 +10,10 @@ use lib.Dec.{ltb, leb, eqb}
 use lib.ListN.{length, getD, take, drop}
 use lib.Seq.{sets}
 use borrow.Author.Tests.{eq-eqb, ne-eqb, lt-ltb, le-ltb, le-leb, lt-leb, ltb-false, eqb-true}
+use Rattle.fields.specs.Checked.{Checked, good, bad}
 use Rattle.fields.specs.Bytes.{u32At, wordsAt}
 use Rattle.fields.specs.Place.{placeOf}
-use Rattle.fields.specs.Refusals.{numberOf}
+use Rattle.fields.specs.Refusals.{refusalNumber}
 use Rattle.fields.specs.Tag.{signatureOf}
 use Rattle.fields.specs.declared.Kind.the-variants.{Curv, Para}
 use Rattle.fields.specs.declared.Place.{Place}
@@ -22,10 +23,10 @@ use Rattle.fields.specs.declared.Refusal.the-variants.{CurveRunsOut, OtherCurve
 use Rattle.fields.proofs.Choice.{each}
 use Rattle.fields.proofs.Located.{inside, past, rest-is, part-is}
 use Rattle.fields.proofs.Words.{word-at, word-past}
-use Rattle.curve_meaning.specs.Answer.{Answer, value, absent, refused, words, answerOf, Going, on, stop, goingOf, slotWith, seenIn, Went}
-use Rattle.curve_meaning.specs.Curve.{trcOf, curveOf, tableOf, paraOf, divides}
+use Rattle.curve_meaning.specs.Answer.{Answer, value, absent, refused, words, answerOf, stepChecked, slotWith, inSlot, StepAndSlot}
+use Rattle.curve_meaning.specs.Curve.{trcOf, curveOf, curvOf, paraOf, divides}
 use Rattle.curve_meaning.specs.Layout.{entryCount, functionType, parameterCount, parameters}
-use Rattle.curve_meaning.specs.Shape.{Shape, Seen, is, no, empty, table, para, tableShape, emptyStep, stepOf, sizeOf, recordWords, recordOf, wordsOf}
+use Rattle.curve_meaning.specs.Shape.{Shape, empty, table, para, tableShape, emptyStep, stepOf, sizeOf, recordWords, recordOf, wordsOf}
 use Rattle.curve_meaning.specs.declared.CurveRecord.{CurveRecord}
 use Rattle.curve_meaning.specs.declared.Step.{Step}
 use Rattle.curve_meaning.specs.declared.Walk.{Walk}
@@ -34,48 +35,48 @@ use Rattle.curve.specs.declared.Found.{Found}
 
 -- ---- what is made of what is seen: an answer, a step, a slot
 
-module _ (walk : Walk) (start : ℕ) {x : Seen} where
-  answering : {s : Shape} → is s ≡ x → {ws : List ℕ} {m : ℕ} → ws ≡ wordsOf start s → m ≡ stepOf walk s → value ws m ≡ answerOf walk start x
+module _ (walk : Walk) (start : ℕ) {x : Checked Shape} where
+  answering : {s : Shape} → good s ≡ x → {ws : List ℕ} {m : ℕ} → ws ≡ wordsOf start s → m ≡ stepOf walk s → value ws m ≡ answerOf walk start x
   unfolding answerOf
   answering e f g = rw (← e, f, g)
 
-  refusing : {n : ℕ} → no n ≡ x → refused n ≡ answerOf walk start x
+  refusing : {n : ℕ} → bad n ≡ x → refused n ≡ answerOf walk start x
   unfolding answerOf
   refusing e = rw (← e)
 
-  stepping : {s : Shape} → is s ≡ x → {m : ℕ} → m ≡ stepOf walk s → on m ≡ goingOf walk x
-  unfolding goingOf
+  stepping : {s : Shape} → good s ≡ x → {m : ℕ} → m ≡ stepOf walk s → good m ≡ stepChecked walk x
+  unfolding stepChecked
   stepping e g = rw (← e, g)
 
-  stopping : {n : ℕ} → no n ≡ x → stop n ≡ goingOf walk x
-  unfolding goingOf
+  stopping : {n : ℕ} → bad n ≡ x → bad n ≡ stepChecked walk x
+  unfolding stepChecked
   stopping e = rw (← e)
 
-  writing : {s : Shape} → is s ≡ x → {m : ℕ} → m ≡ stepOf walk s → (slot slot' : List ℕ) {ws : List ℕ} → ws ≡ wordsOf start s → slot' ≡ sets slot 0 ws → Went walk start x (Step.On m) slot slot'
+  writing : {s : Shape} → good s ≡ x → {m : ℕ} → m ≡ stepOf walk s → (slot slot' : List ℕ) {ws : List ℕ} → ws ≡ wordsOf start s → slot' ≡ sets slot 0 ws → StepAndSlot walk start x (Step.On m) slot slot'
   unfolding slotWith
-  writing e g slot slot' f h = record { going-is = stepping e g; slot-is = rw (← e, ← f) h }
+  writing e g slot slot' f h = record { step-is = stepping e g; slot-is = rw (← e, ← f) h }
 
-  keeping : (why : Refusal) → no (numberOf why) ≡ x → (slot : List ℕ) → Went walk start x (Step.Refused why) slot slot
+  keeping : (why : Refusal) → bad (refusalNumber why) ≡ x → (slot : List ℕ) → StepAndSlot walk start x (Step.Refused why) slot slot
   unfolding slotWith
-  keeping why e slot = record { going-is = stopping e; slot-is = rw (← e) }
+  keeping why e slot = record { step-is = stopping e; slot-is = rw (← e) }
 
 -- ---- `curv`
 
 module _ (limit : ℕ) (t : List ℕ) (n : ℕ) (h : n ≡ entryCount t) where
-  pub table-empty : n ≡ 0 → is (tableShape 0) ≡ tableOf limit t
-  unfolding tableOf tableShape
+  pub table-empty : n ≡ 0 → good (tableShape 0) ≡ curvOf limit t
+  unfolding curvOf tableShape
   table-empty z = simp (← h, eq-eqb _ _ z)
 
-  pub table-over : (n ≡ 0 → ⊥) → limit < n → no 10 ≡ tableOf limit t
-  unfolding tableOf
+  pub table-over : (n ≡ 0 → ⊥) → limit < n → bad 10 ≡ curvOf limit t
+  unfolding curvOf
   table-over z l = simp (← h, ne-eqb _ _ z, lt-ltb _ _ l)
 
-  pub table-short : (n ≡ 0 → ⊥) → n ≤ limit → length t < 12 + 2 * n → no 11 ≡ tableOf limit t
-  unfolding tableOf
+  pub table-short : (n ≡ 0 → ⊥) → n ≤ limit → length t < 12 + 2 * n → bad 11 ≡ curvOf limit t
+  unfolding curvOf
   table-short z l k = simp (← h, ne-eqb _ _ z, le-ltb _ _ l, lt-ltb _ _ k)
 
-  pub table-whole : (n ≡ 0 → ⊥) → n ≤ limit → 12 + 2 * n ≤ length t → is (tableShape n) ≡ tableOf limit t
-  unfolding tableOf tableShape
+  pub table-whole : (n ≡ 0 → ⊥) → n ≤ limit → 12 + 2 * n ≤ length t → good (tableShape n) ≡ curvOf limit t
+  unfolding curvOf tableShape
   table-whole z l k = simp (← h, ne-eqb _ _ z, le-ltb _ _ l, le-ltb _ _ k)
 
 module _ (walk : Walk) (n : ℕ) where
@@ -96,31 +97,31 @@ module _ (start n : ℕ) where
   unfolding tableShape wordsOf
   words-some z = simp (ne-eqb _ _ z)
 
-module _ (walk : Walk) (start limit : ℕ) (t : List ℕ) (found : Found) (j : tableFrom found ≡ tableOf limit t) where
+module _ (walk : Walk) (start limit : ℕ) (t : List ℕ) (found : Found) (j : tableFrom found ≡ curvOf limit t) where
   module _ (n : ℕ) (e : found ≡ Found.Number n) where
-    table-is : is (tableShape n) ≡ tableOf limit t
+    table-is : good (tableShape n) ≡ curvOf limit t
     table-is = sym (ap tableFrom e) ∙ j
 
-    pub table-value : (r : CurveRecord) (m : ℕ) → words r ≡ wordsOf start (tableShape n) → m ≡ stepOf walk (tableShape n) → value (words r) m ≡ answerOf walk start (tableOf limit t)
+    pub table-value : (r : CurveRecord) (m : ℕ) → words r ≡ wordsOf start (tableShape n) → m ≡ stepOf walk (tableShape n) → value (words r) m ≡ answerOf walk start (curvOf limit t)
     table-value r m f g = answering walk start table-is f g
 
-    pub table-on : (m : ℕ) → m ≡ stepOf walk (tableShape n) → on m ≡ goingOf walk (tableOf limit t)
+    pub table-on : (m : ℕ) → m ≡ stepOf walk (tableShape n) → good m ≡ stepChecked walk (curvOf limit t)
     table-on m g = stepping walk start table-is g
 
-    pub table-written : (r : CurveRecord) (m : ℕ) (slot slot' : List ℕ) → words r ≡ wordsOf start (tableShape n) → slot' ≡ sets slot 0 (words r) → m ≡ stepOf walk (tableShape n) → Went walk start (tableOf limit t) (Step.On m) slot slot'
+    pub table-written : (r : CurveRecord) (m : ℕ) (slot slot' : List ℕ) → words r ≡ wordsOf start (tableShape n) → slot' ≡ sets slot 0 (words r) → m ≡ stepOf walk (tableShape n) → StepAndSlot walk start (curvOf limit t) (Step.On m) slot slot'
     table-written r m slot slot' f h g = writing walk start table-is g slot slot' f h
 
   module _ (why : Refusal) (e : found ≡ Found.Refused why) where
-    table-not : no (numberOf why) ≡ tableOf limit t
+    table-not : bad (refusalNumber why) ≡ curvOf limit t
     table-not = sym (ap tableFrom e) ∙ j
 
-    pub table-refused : refused (numberOf why) ≡ answerOf walk start (tableOf limit t)
+    pub table-refused : refused (refusalNumber why) ≡ answerOf walk start (curvOf limit t)
     table-refused = refusing walk start table-not
 
-    pub table-stops : stop (numberOf why) ≡ goingOf walk (tableOf limit t)
+    pub table-stops : bad (refusalNumber why) ≡ stepChecked walk (curvOf limit t)
     table-stops = stopping walk start table-not
 
-    pub table-kept : (slot : List ℕ) → Went walk start (tableOf limit t) (Step.Refused why) slot slot
+    pub table-kept : (slot : List ℕ) → StepAndSlot walk start (curvOf limit t) (Step.Refused why) slot slot
     table-kept slot = keeping walk start why table-not slot
 
 -- ---- `para`
@@ -146,35 +147,35 @@ module _ (t : List ℕ) (n i : ℕ) where
   parameter-unused l = sym (word-past t 12 n i l)
 
 module _ (t : List ℕ) (k : ℕ) (h : k ≡ functionType t) where
-  pub para-type : 4 < k → no 12 ≡ paraOf t
+  pub para-type : 4 < k → bad 12 ≡ paraOf t
   unfolding paraOf
   para-type l = simp (← h, lt-ltb _ _ l)
 
   module _ (n : ℕ) (m : n ≡ parameterCount k) (l : k ≤ 4) where
-    pub para-short : length t < 12 + 4 * n → no 11 ≡ paraOf t
+    pub para-short : length t < 12 + 4 * n → bad 11 ≡ paraOf t
     unfolding paraOf
     para-short s = simp (← h, le-ltb _ _ l, ← m, lt-ltb _ _ s)
 
     module _ (s : 12 + 4 * n ≤ length t) (p₁ : ℕ) (e₁ : p₁ ≡ getD (wordsAt t 12 n) 1 0) (z : Bool) (d : z ≡ divides k && eqb p₁ 0) where
-      pub para-zero : z ≡ true → no 13 ≡ paraOf t
+      pub para-zero : z ≡ true → bad 13 ≡ paraOf t
       unfolding paraOf
       para-zero y = simp (← h, le-ltb _ _ l, ← m, le-ltb _ _ s, ← e₁, ← d, y)
 
-      pub para-whole : z ≡ false → is (para k (wordsAt t 12 (parameterCount k))) ≡ paraOf t
+      pub para-whole : z ≡ false → good (para k (wordsAt t 12 (parameterCount k))) ≡ paraOf t
       unfolding paraOf
       para-whole y = simp (← h, le-ltb _ _ l, ← m, le-ltb _ _ s, ← e₁, ← d, y)
 
 -- a function that is taken is known, and its parameters are there
-Fits : List ℕ → Seen → Type 0
-Fits t (is empty) = Unit
-Fits t (is (table n)) = Unit
-Fits t (is (para type ps)) = (type ≤ 4) × (12 + 4 * parameterCount type ≤ length t)
-Fits t (no n) = Unit
+Fits : List ℕ → Checked Shape → Type 0
+Fits t (good empty) = Unit
+Fits t (good (table n)) = Unit
+Fits t (good (para type ps)) = (type ≤ 4) × (12 + 4 * parameterCount type ≤ length t)
+Fits t (bad n) = Unit
 
 fits : (t : List ℕ) → Fits t (paraOf t)
 unfolding Fits paraOf
 fits t =
-    let P : Seen → Type 0 = Fits t in
+    let P : Checked Shape → Type 0 = Fits t in
     let type : ℕ = functionType t in
     each P (ltb 4 type) _ _ (λ _. tt)
     (λ m. each P (ltb (length t) (12 + 4 * parameterCount type)) _ _ (λ _. tt)
@@ -182,7 +183,7 @@ fits t =
 
 module _ (walk : Walk) (start : ℕ) (t : List ℕ) (found : Found) (j : paraFrom t found ≡ paraOf t) where
   module _ (k : ℕ) (e : found ≡ Found.Number k) where
-    para-is : is (para k (wordsAt t 12 (parameterCount k))) ≡ paraOf t
+    para-is : good (para k (wordsAt t 12 (parameterCount k))) ≡ paraOf t
     para-is = sym (ap (paraFrom t) e) ∙ j
 
     inside-it : (k ≤ 4) × (12 + 4 * parameterCount k ≤ length t)
@@ -215,36 +216,36 @@ module _ (walk : Walk) (start : ℕ) (t : List ℕ) (found : Found) (j : paraFro
         unfolding row
         para-value = answering walk start para-is row-is step-is
 
-        pub para-written : (slot slot' : List ℕ) → slot' ≡ sets slot 0 ((2 + k) ∷ start ∷ n ∷ p₀ ∷ p₁ ∷ p₂ ∷ p₃ ∷ p₄ ∷ p₅ ∷ p₆ ∷ []) → Went walk start (paraOf t) (Step.On c) slot slot'
+        pub para-written : (slot slot' : List ℕ) → slot' ≡ sets slot 0 ((2 + k) ∷ start ∷ n ∷ p₀ ∷ p₁ ∷ p₂ ∷ p₃ ∷ p₄ ∷ p₅ ∷ p₆ ∷ []) → StepAndSlot walk start (paraOf t) (Step.On c) slot slot'
         unfolding row
         para-written slot slot' h = writing walk start para-is step-is slot slot' row-is h
 
-    pub para-on : (n c : ℕ) → n ≡ parameterCount k → c ≡ 12 + 4 * n → on c ≡ goingOf walk (paraOf t)
+    pub para-on : (n c : ℕ) → n ≡ parameterCount k → c ≡ 12 + 4 * n → good c ≡ stepChecked walk (paraOf t)
     unfolding stepOf sizeOf
     para-on n c m g = stepping walk start para-is (rw (← m) g)
 
   module _ (why : Refusal) (e : found ≡ Found.Refused why) where
-    para-not : no (numberOf why) ≡ paraOf t
+    para-not : bad (refusalNumber why) ≡ paraOf t
     para-not = sym (ap (paraFrom t) e) ∙ j
 
-    pub para-refused : refused (numberOf why) ≡ answerOf walk start (paraOf t)
+    pub para-refused : refused (refusalNumber why) ≡ answerOf walk start (paraOf t)
     para-refused = refusing walk start para-not
 
-    pub para-stops : stop (numberOf why) ≡ goingOf walk (paraOf t)
+    pub para-stops : bad (refusalNumber why) ≡ stepChecked walk (paraOf t)
     para-stops = stopping walk start para-not
 
-    pub para-kept : (slot : List ℕ) → Went walk start (paraOf t) (Step.Refused why) slot slot
+    pub para-kept : (slot : List ℕ) → StepAndSlot walk start (paraOf t) (Step.Refused why) slot slot
     para-kept slot = keeping walk start why para-not slot
 
 -- ---- one curve
 
 module _ (limit : ℕ) (t : List ℕ) where
-  seen-short : length t < 12 → no 11 ≡ curveOf limit t
+  seen-short : length t < 12 → bad 11 ≡ curveOf limit t
   unfolding curveOf
   seen-short l = simp (lt-ltb _ _ l)
 
   module _ (l : 12 ≤ length t) (w : ℕ) (h : w ≡ u32At t 0) where
-    seen-table : w ≡ signatureOf Curv → tableOf limit t ≡ curveOf limit t
+    seen-table : w ≡ signatureOf Curv → curvOf limit t ≡ curveOf limit t
     unfolding curveOf
     seen-table e = simp (le-ltb _ _ l, ← h, eq-eqb _ _ e)
 
@@ -253,7 +254,7 @@ module _ (limit : ℕ) (t : List ℕ) where
       unfolding curveOf
       seen-para e = simp (le-ltb _ _ l, ← h, ne-eqb _ _ n, eq-eqb _ _ e)
 
-      seen-other : (w ≡ signatureOf Para → ⊥) → no 9 ≡ curveOf limit t
+      seen-other : (w ≡ signatureOf Para → ⊥) → bad 9 ≡ curveOf limit t
       unfolding curveOf
       seen-other m = simp (le-ltb _ _ l, ← h, ne-eqb _ _ n, ne-eqb _ _ m)
 
@@ -261,52 +262,52 @@ module _ (walk : Walk) (start limit : ℕ) (t : List ℕ) where
   pub curve-short : length t < 12 → refused 11 ≡ answerOf walk start (curveOf limit t)
   curve-short l = refusing walk start (seen-short limit t l)
 
-  pub short-stops : length t < 12 → stop 11 ≡ goingOf walk (curveOf limit t)
+  pub short-stops : length t < 12 → bad 11 ≡ stepChecked walk (curveOf limit t)
   short-stops l = stopping walk start (seen-short limit t l)
 
   module _ (l : 12 ≤ length t) (w : ℕ) (h : w ≡ u32At t 0) where
-    pub curve-table : (r : Answer) → w ≡ signatureOf Curv → r ≡ answerOf walk start (tableOf limit t) → r ≡ answerOf walk start (curveOf limit t)
+    pub curve-table : (r : Answer) → w ≡ signatureOf Curv → r ≡ answerOf walk start (curvOf limit t) → r ≡ answerOf walk start (curveOf limit t)
     curve-table r e g = g ∙ ap (answerOf walk start) (seen-table limit t l w h e)
 
-    pub table-steps : (r : Going) → w ≡ signatureOf Curv → r ≡ goingOf walk (tableOf limit t) → r ≡ goingOf walk (curveOf limit t)
-    table-steps r e g = g ∙ ap (goingOf walk) (seen-table limit t l w h e)
+    pub table-steps : (r : Checked ℕ) → w ≡ signatureOf Curv → r ≡ stepChecked walk (curvOf limit t) → r ≡ stepChecked walk (curveOf limit t)
+    table-steps r e g = g ∙ ap (stepChecked walk) (seen-table limit t l w h e)
 
     module _ (n : w ≡ signatureOf Curv → ⊥) where
       pub curve-para : (r : Answer) → w ≡ signatureOf Para → r ≡ answerOf walk start (paraOf t) → r ≡ answerOf walk start (curveOf limit t)
       curve-para r e g = g ∙ ap (answerOf walk start) (seen-para limit t l w h n e)
 
-      pub para-steps : (r : Going) → w ≡ signatureOf Para → r ≡ goingOf walk (paraOf t) → r ≡ goingOf walk (curveOf limit t)
-      para-steps r e g = g ∙ ap (goingOf walk) (seen-para limit t l w h n e)
+      pub para-steps : (r : Checked ℕ) → w ≡ signatureOf Para → r ≡ stepChecked walk (paraOf t) → r ≡ stepChecked walk (curveOf limit t)
+      para-steps r e g = g ∙ ap (stepChecked walk) (seen-para limit t l w h n e)
 
       pub curve-other : (w ≡ signatureOf Para → ⊥) → refused 9 ≡ answerOf walk start (curveOf limit t)
       curve-other m = refusing walk start (seen-other limit t l w h n m)
 
-      pub other-stops : (w ≡ signatureOf Para → ⊥) → stop 9 ≡ goingOf walk (curveOf limit t)
+      pub other-stops : (w ≡ signatureOf Para → ⊥) → bad 9 ≡ stepChecked walk (curveOf limit t)
       other-stops m = stopping walk start (seen-other limit t l w h n m)
 
 -- into a slot
 module _ (walk : Walk) (start limit : ℕ) (t slot : List ℕ) where
-  pub slot-short : length slot < recordWords → Went walk start (seenIn slot (curveOf limit t)) (Step.Refused TooFewSlots) slot slot
-  unfolding seenIn
+  pub slot-short : length slot < recordWords → StepAndSlot walk start (inSlot slot (curveOf limit t)) (Step.Refused TooFewSlots) slot slot
+  unfolding inSlot
   slot-short s = keeping walk start TooFewSlots (rw (lt-ltb _ _ s)) slot
 
   module _ (s : recordWords ≤ length slot) where
-    in-it : {x : Seen} → x ≡ curveOf limit t → x ≡ seenIn slot (curveOf limit t)
-    unfolding seenIn
+    in-it : {x : Checked Shape} → x ≡ curveOf limit t → x ≡ inSlot slot (curveOf limit t)
+    unfolding inSlot
     in-it e = rw (le-ltb _ _ s) e
 
-    pub slot-kept : length t < 12 → Went walk start (seenIn slot (curveOf limit t)) (Step.Refused CurveRunsOut) slot slot
+    pub slot-kept : length t < 12 → StepAndSlot walk start (inSlot slot (curveOf limit t)) (Step.Refused CurveRunsOut) slot slot
     slot-kept l = keeping walk start CurveRunsOut (in-it (seen-short limit t l)) slot
 
     module _ (l : 12 ≤ length t) (w : ℕ) (h : w ≡ u32At t 0) where
-      pub slot-table : (r : Step) (slot' : List ℕ) → w ≡ signatureOf Curv → Went walk start (tableOf limit t) r slot slot' → Went walk start (seenIn slot (curveOf limit t)) r slot slot'
-      slot-table r slot' e g = subst (λ (x : Seen). Went walk start x r slot slot') (in-it (seen-table limit t l w h e)) g
+      pub slot-table : (r : Step) (slot' : List ℕ) → w ≡ signatureOf Curv → StepAndSlot walk start (curvOf limit t) r slot slot' → StepAndSlot walk start (inSlot slot (curveOf limit t)) r slot slot'
+      slot-table r slot' e g = subst (λ (x : Checked Shape). StepAndSlot walk start x r slot slot') (in-it (seen-table limit t l w h e)) g
 
       module _ (n : w ≡ signatureOf Curv → ⊥) where
-        pub slot-para : (r : Step) (slot' : List ℕ) → w ≡ signatureOf Para → Went walk start (paraOf t) r slot slot' → Went walk start (seenIn slot (curveOf limit t)) r slot slot'
-        slot-para r slot' e g = subst (λ (x : Seen). Went walk start x r slot slot') (in-it (seen-para limit t l w h n e)) g
+        pub slot-para : (r : Step) (slot' : List ℕ) → w ≡ signatureOf Para → StepAndSlot walk start (paraOf t) r slot slot' → StepAndSlot walk start (inSlot slot (curveOf limit t)) r slot slot'
+        slot-para r slot' e g = subst (λ (x : Checked Shape). StepAndSlot walk start x r slot slot') (in-it (seen-para limit t l w h n e)) g
 
-        pub slot-other : (w ≡ signatureOf Para → ⊥) → Went walk start (seenIn slot (curveOf limit t)) (Step.Refused OtherCurve) slot slot
+        pub slot-other : (w ≡ signatureOf Para → ⊥) → StepAndSlot walk start (inSlot slot (curveOf limit t)) (Step.Refused OtherCurve) slot slot
         slot-other m = keeping walk start OtherCurve (in-it (seen-other limit t l w h n m)) slot
 
 -- ---- the lone reader

@@ -18,8 +18,8 @@ ghost use lib.ListN.{length, getD};
 ghost use lib.Seq.{sets};
 ghost use Rattle.fields.specs.Bytes.{u32At, wordsAt};
 ghost use Rattle.fields.specs.House.{tagSize};
-ghost use Rattle.curve_meaning.specs.Answer.{words, paper, answerOf, goingOf, goingFrom, seenIn, Went};
-ghost use Rattle.curve_meaning.specs.Curve.{trcOf, curveOf, tableOf, paraOf, divides};
+ghost use Rattle.curve_meaning.specs.Answer.{words, inNumbers, answerOf, stepChecked, stepInNumbers, inSlot, StepAndSlot};
+ghost use Rattle.curve_meaning.specs.Curve.{trcOf, curveOf, curvOf, paraOf, divides};
 ghost use Rattle.curve_meaning.specs.Layout.{parameterCount, parametersEnd};
 ghost use Rattle.curve_meaning.specs.Shape.{emptyStep, stepOf, tableShape, recordWords, wordsOf};
 ghost use Rattle.curve.specs.Found.{tableFrom, paraFrom};
@@ -103,7 +103,7 @@ fn divides_by_zero(function: u32, a: u32) -> bool
 
 // `curv`: how many entries it has, none for an empty curve.
 fn find_table(tag: &[u8], limit: u64) -> Found
-    ensures { λ r. ⌜ tableFrom r ≡ tableOf limit (now (tag .entry)) ⌝ }
+    ensures { λ r. ⌜ tableFrom r ≡ curvOf limit (now (tag .entry)) ⌝ }
 {
     let entries = fields::u32_at(tag, InTag(8));
     if entries == 0 {
@@ -139,7 +139,7 @@ fn find_para(tag: &[u8]) -> Found
 
 // `curv`: its step.
 fn judge_table(tag: &[u8], limit: u64, walk: Walk) -> Step
-    ensures { λ r. ⌜ goingFrom r ≡ goingOf walk (tableOf limit (now (tag .entry))) ⌝ }
+    ensures { λ r. ⌜ stepInNumbers r ≡ stepChecked walk (curvOf limit (now (tag .entry))) ⌝ }
 {
     let found = find_table(tag, limit);
     match found {
@@ -150,7 +150,7 @@ fn judge_table(tag: &[u8], limit: u64, walk: Walk) -> Step
 
 // `para`: its step.
 fn judge_para(tag: &[u8], walk: Walk) -> Step
-    ensures { λ r. ⌜ goingFrom r ≡ goingOf walk (paraOf (now (tag .entry))) ⌝ }
+    ensures { λ r. ⌜ stepInNumbers r ≡ stepChecked walk (paraOf (now (tag .entry))) ⌝ }
 {
     let found = find_para(tag);
     match found {
@@ -164,7 +164,7 @@ fn judge_para(tag: &[u8], walk: Walk) -> Step
 
 // The curve at the front of `bytes`, which may hold more behind it: how far a walk goes on, and nothing else of it.
 pub fn judge_curve(bytes: &[u8], limit: u64, walk: Walk) -> Step
-    ensures { λ r. ⌜ goingFrom r ≡ goingOf walk (curveOf limit (now (bytes .entry))) ⌝ }
+    ensures { λ r. ⌜ stepInNumbers r ≡ stepChecked walk (curveOf limit (now (bytes .entry))) ⌝ }
 {
     if bytes.len() < TAG_SIZE as usize {
         return Step::Refused(Refusal::CurveRunsOut);
@@ -200,7 +200,7 @@ fn table_record(start: u32, entries: u32) -> CurveRecord
 
 // `curv`: an empty curve, or a table.
 fn read_table(tag: &[u8], start: u32, limit: u64, walk: Walk) -> CurveAnswer
-    ensures { λ r. ⌜ paper r ≡ answerOf walk start (tableOf limit (now (tag .entry))) ⌝ }
+    ensures { λ r. ⌜ inNumbers r ≡ answerOf walk start (curvOf limit (now (tag .entry))) ⌝ }
 {
     let found = find_table(tag, limit);
     match found {
@@ -215,7 +215,7 @@ fn read_table(tag: &[u8], start: u32, limit: u64, walk: Walk) -> CurveAnswer
 
 // `para`: a function and its parameters.
 fn read_para(tag: &[u8], start: u32, walk: Walk) -> CurveAnswer
-    ensures { λ r. ⌜ paper r ≡ answerOf walk start (paraOf (now (tag .entry))) ⌝ }
+    ensures { λ r. ⌜ inNumbers r ≡ answerOf walk start (paraOf (now (tag .entry))) ⌝ }
 {
     let found = find_para(tag);
     match found {
@@ -243,7 +243,7 @@ fn read_para(tag: &[u8], start: u32, walk: Walk) -> CurveAnswer
 // The curve at the front of `bytes`, which may hold more behind it. `start` is where its data start in the tag, for the record.
 // Never absent.
 pub fn read_curve(bytes: &[u8], start: u32, limit: u64, walk: Walk) -> CurveAnswer
-    ensures { λ r. ⌜ paper r ≡ answerOf walk start (curveOf limit (now (bytes .entry))) ⌝ }
+    ensures { λ r. ⌜ inNumbers r ≡ answerOf walk start (curveOf limit (now (bytes .entry))) ⌝ }
 {
     if bytes.len() < TAG_SIZE as usize {
         return CurveAnswer::Refused(Refusal::CurveRunsOut);
@@ -278,7 +278,7 @@ fn put(slot: &mut [u32], r: CurveRecord)
 // `curv`: its record.
 fn write_table(tag: &[u8], start: u32, limit: u64, walk: Walk, slot: &mut [u32]) -> Step
     requires { ⌜ recordWords ≤ length (now slot) ⌝ }
-    ensures { λ r. ⌜ Went walk start (tableOf limit (now (tag .entry))) r (now (slot .entry)) (now (slot .exit)) ⌝ }
+    ensures { λ r. ⌜ StepAndSlot walk start (curvOf limit (now (tag .entry))) r (now (slot .entry)) (now (slot .exit)) ⌝ }
 {
     let found = find_table(tag, limit);
     match found {
@@ -293,7 +293,7 @@ fn write_table(tag: &[u8], start: u32, limit: u64, walk: Walk, slot: &mut [u32])
 // `para`: its record.
 fn write_para(tag: &[u8], start: u32, walk: Walk, slot: &mut [u32]) -> Step
     requires { ⌜ recordWords ≤ length (now slot) ⌝ }
-    ensures { λ r. ⌜ Went walk start (paraOf (now (tag .entry))) r (now (slot .entry)) (now (slot .exit)) ⌝ }
+    ensures { λ r. ⌜ StepAndSlot walk start (paraOf (now (tag .entry))) r (now (slot .entry)) (now (slot .exit)) ⌝ }
 {
     let found = find_para(tag);
     match found {
@@ -321,7 +321,7 @@ fn write_para(tag: &[u8], start: u32, walk: Walk, slot: &mut [u32]) -> Step
 // The curve at the front of `bytes`, as `read_curve` has it: its record goes in front of `slot`, and how far the walk goes on is answered.
 // A slot of fewer than RECORD_WORDS words is refused.
 pub fn write_curve(bytes: &[u8], start: u32, limit: u64, walk: Walk, slot: &mut [u32]) -> Step
-    ensures { λ r. ⌜ Went walk start (seenIn (now (slot .entry)) (curveOf limit (now (bytes .entry)))) r (now (slot .entry)) (now (slot .exit)) ⌝ }
+    ensures { λ r. ⌜ StepAndSlot walk start (inSlot (now (slot .entry)) (curveOf limit (now (bytes .entry)))) r (now (slot .entry)) (now (slot .exit)) ⌝ }
 {
     if slot.len() < RECORD_WORDS {
         return Step::Refused(Refusal::TooFewSlots);
@@ -359,7 +359,7 @@ fn tag_bytes(left: usize, size: u32) -> u64
 // The tone curve whose tag stands at `entry`, of `size` bytes, or up to the profile's end where the size is 0; a table may have
 // `limit` entries. The Rust's read_trc_tag, whose read_size is `consumed` here.
 pub fn read_trc_tag(profile: &[u8], entry: Entry, size: u32, limit: u64, walk: Walk) -> CurveAnswer
-    ensures { λ r. ⌜ paper r ≡ trcOf walk limit (now (profile .entry)) (entry .0) size ⌝ }
+    ensures { λ r. ⌜ inNumbers r ≡ trcOf walk limit (now (profile .entry)) (entry .0) size ⌝ }
 {
     let signature = fields::locate(profile, entry, InTag(4));
     let Place::In { from, to: _ } = signature else {

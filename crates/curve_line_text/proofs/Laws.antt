@@ -6,10 +6,10 @@ use mathlib.Core.List.{List, [], _∷_}
 use lib.ListN.{length, getD, take, drop}
 use borrow.Author.Tests.{eq-eqb, ne-eqb, lt-ltb, le-ltb}
 use Rattle.fields.specs.Bytes.{u32At}
-use Rattle.fields.specs.Refusals.{numberOf}
+use Rattle.fields.specs.Refusals.{refusalNumber}
 use Rattle.fields.specs.declared.Refusal.{Refusal}
 use Rattle.fields.proofs.Located.{rest-is}
-use Rattle.curve_meaning.specs.Answer.{Answer, absent, words, paper}
+use Rattle.curve_meaning.specs.Answer.{Answer, absent, words, inNumbers}
 use Rattle.curve_meaning.specs.Curve.{trcOf}
 use Rattle.curve_meaning.specs.declared.CurveAnswer.{CurveAnswer}
 use Rattle.curve_meaning.specs.declared.CurveRecord.{CurveRecord}
@@ -56,19 +56,19 @@ unfolding recordText
 record-wrote first r u v w x = joined (joined (joined u v) w) x
 
 module _ (a : CurveAnswer) where
-  pub text-value : (r : CurveRecord) (used : ℕ) {k l m n : List ℕ} {b c d : ℕ} → a ≡ CurveAnswer.Value r used → Wrote k l 0 b (0x63 ∷ 0x75 ∷ 0x72 ∷ 0x76 ∷ 0x65 ∷ 0x20 ∷ 0x76 ∷ 0x61 ∷ 0x6c ∷ 0x75 ∷ 0x65 ∷ []) → Wrote l m b c (recordText 0x0a (words r)) → Wrote m n c d (0x0a ∷ []) → Wrote k n 0 d (textOf (answered (paper a)))
+  pub text-value : (r : CurveRecord) (used : ℕ) {k l m n : List ℕ} {b c d : ℕ} → a ≡ CurveAnswer.Value r used → Wrote k l 0 b (0x63 ∷ 0x75 ∷ 0x72 ∷ 0x76 ∷ 0x65 ∷ 0x20 ∷ 0x76 ∷ 0x61 ∷ 0x6c ∷ 0x75 ∷ 0x65 ∷ []) → Wrote l m b c (recordText 0x0a (words r)) → Wrote m n c d (0x0a ∷ []) → Wrote k n 0 d (textOf (answered (inNumbers a)))
   unfolding textOf
   text-value r used e u v w = rw e (joined (joined u v) w)
 
-  pub text-absent : {k l : List ℕ} {b : ℕ} → a ≡ CurveAnswer.Absent → Wrote k l 0 b (textOf (answered absent)) → Wrote k l 0 b (textOf (answered (paper a)))
+  pub text-absent : {k l : List ℕ} {b : ℕ} → a ≡ CurveAnswer.Absent → Wrote k l 0 b (textOf (answered absent)) → Wrote k l 0 b (textOf (answered (inNumbers a)))
   text-absent e u = rw e u
 
-  pub text-refused : (why : Refusal) (i : ℕ) {k l m n : List ℕ} {b c d : ℕ} → a ≡ CurveAnswer.Refused why → i ≡ numberOf why → Wrote k l 0 b (0x63 ∷ 0x75 ∷ 0x72 ∷ 0x76 ∷ 0x65 ∷ 0x20 ∷ 0x72 ∷ 0x65 ∷ 0x66 ∷ 0x75 ∷ 0x73 ∷ 0x65 ∷ 0x64 ∷ []) → Wrote l m b c (number 0x20 i) → Wrote m n c d (0x0a ∷ []) → Wrote k n 0 d (textOf (answered (paper a)))
+  pub text-refused : (why : Refusal) (i : ℕ) {k l m n : List ℕ} {b c d : ℕ} → a ≡ CurveAnswer.Refused why → i ≡ refusalNumber why → Wrote k l 0 b (0x63 ∷ 0x75 ∷ 0x72 ∷ 0x76 ∷ 0x65 ∷ 0x20 ∷ 0x72 ∷ 0x65 ∷ 0x66 ∷ 0x75 ∷ 0x73 ∷ 0x65 ∷ 0x64 ∷ []) → Wrote l m b c (number 0x20 i) → Wrote m n c d (0x0a ∷ []) → Wrote k n 0 d (textOf (answered (inNumbers a)))
   unfolding textOf
   text-refused why i e f u v w = rw (e, ← f) (joined (joined u v) w)
 
 module _ (job : List ℕ) (line : CurveLine) (h : lineFrom line ≡ lineOf job) where
-  pub text-answer : (a : CurveAnswer) {k l : List ℕ} {b : ℕ} → line ≡ CurveLine.Answer a → Wrote k l 0 b (textOf (answered (paper a))) → Wrote k l 0 b (textOf (lineOf job))
+  pub text-answer : (a : CurveAnswer) {k l : List ℕ} {b : ℕ} → line ≡ CurveLine.Answer a → Wrote k l 0 b (textOf (answered (inNumbers a))) → Wrote k l 0 b (textOf (lineOf job))
   text-answer a e u = rw (← h, e) u
 
   pub text-bad : {k l : List ℕ} {b : ℕ} → line ≡ CurveLine.BadJob → Wrote k l 0 b (textOf badJob) → Wrote k l 0 b (textOf (lineOf job))

@@ -12,7 +12,7 @@ use lib.Dec.{ltb, eqb}
 use lib.ListN.{length, getD, drop}
 use Rattle.fields.specs.Bytes.{u32At}
 use Rattle.fields.specs.House.{houseEntries}
-use Rattle.curve_meaning.specs.Answer.{Answer, value, absent, refused, paper}
+use Rattle.curve_meaning.specs.Answer.{Answer, value, absent, refused, inNumbers}
 use Rattle.curve_meaning.specs.Curve.{trcOf}
 use Rattle.curve_meaning.specs.declared.Walk.the-variants.{Crate}
 use Rattle.lines.specs.Text.{number, numerals}
@@ -24,7 +24,7 @@ pub data Line : Type 0 where
   badJob : Line
 
 abbrev pub lineFrom : CurveLine → Line
-lineFrom (CurveLine.Answer a) = answered (paper a)
+lineFrom (CurveLine.Answer a) = answered (inNumbers a)
 lineFrom CurveLine.BadJob = badJob
 
 -- the longest job

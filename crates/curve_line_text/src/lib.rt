@@ -5,7 +5,7 @@ use curve::Walk;
 use fields::Entry;
 use fields::InTag;
 ghost use mathlib.Core.Path.{_≡_};
-ghost use Rattle.curve_meaning.specs.Answer.{paper, words as Answer·words};
+ghost use Rattle.curve_meaning.specs.Answer.{inNumbers, words as Answer·words};
 ghost use Rattle.lines.specs.Text.{Wrote};
 ghost use Rattle.curve_line_text.specs.CurveLine.{answered, lineFrom, lineOf, recordText, textOf};
 
@@ -69,7 +69,7 @@ pub fn put_record(out: &mut [u8], at: usize, first: u8, curve: CurveRecord) -> u
 
 // Writes the text of a reader's answer from the start of `out` on.
 fn put_answer(out: &mut [u8], answer: CurveAnswer) -> usize
-    ensures { λ r. ⌜ Wrote (now (out .entry)) (now (out .exit)) 0 r (textOf (answered (paper answer))) ⌝ }
+    ensures { λ r. ⌜ Wrote (now (out .entry)) (now (out .exit)) 0 r (textOf (answered (inNumbers answer))) ⌝ }
 {
     match answer {
         CurveAnswer::Value { curve, consumed: _ } => {

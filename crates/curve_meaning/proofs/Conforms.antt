@@ -9,6 +9,7 @@ use mathlib.Core.List.{List, [], _∷_, _++_}
 use lib.Dec.{eqb}
 use lib.ListN.{length, getD, take, drop, length-append, length-take, length-drop}
 use borrow.Author.Tests.{le-ltb, ne-eqb}
+use Rattle.fields.specs.Checked.{good}
 use Rattle.icc.specs.Curves.{Curve, sampled, parametric, curveElement, curveType, Function, type0, type1, type2, type3, type4, encoded, parameters, Defined, parametricCurveType}
 use Rattle.icc.specs.Numbers.{each16, each32, Is32, Each32, Bytes}
 use Rattle.fields.proofs.Written.{read16, read32, length16, length32, words-drop, words-written, below32, words-below, rest-bytes, part-bytes, then16, then32, row16, row32, halvesAt, halves-length}
@@ -17,8 +18,8 @@ use Rattle.fields.specs.Tag.{signatureOf}
 use Rattle.curve_meaning.specs.Answer.{value, answerOf}
 use Rattle.curve_meaning.specs.Curve.{trcOf, curveOf, divides}
 use Rattle.curve_meaning.specs.Layout.{parameterCount}
-use Rattle.curve_meaning.specs.Shape.{Shape, is, empty, table, para, sizeOf, stepOf, wordsOf}
-use Rattle.curve_meaning.specs.Standard.{shapeOf, Fits, Begins, toldOf, stepTold, Tag, Lone}
+use Rattle.curve_meaning.specs.Shape.{Shape, empty, table, para, sizeOf, stepOf, wordsOf}
+use Rattle.curve_meaning.specs.Standard.{shapeOf, Fits, Begins, recordTold, stepTold, Tag, Lone}
 use Rattle.curve_meaning.specs.declared.Walk.{Walk}
 use Rattle.curve_meaning.specs.declared.Walk.the-variants.{Crate, Book}
 use Rattle.curve_meaning.proofs.Laid.{CurveType, ParametricCurveType, Laid, Within, accepted, laid}
@@ -72,7 +73,7 @@ module _ (reserved : ℕ) (rest : List ℕ) where
       }
 
 -- a curve that the standard writes is seen as its shape
-pub written-read : (limit : ℕ) (c : Curve) (rest : List ℕ) → Fits limit c → curveOf limit (curveElement c ++ rest) ≡ is (shapeOf c)
+pub written-read : (limit : ℕ) (c : Curve) (rest : List ℕ) → Fits limit c → curveOf limit (curveElement c ++ rest) ≡ good (shapeOf c)
 unfolding curveElement shapeOf Fits Laid Within
 written-read limit (sampled reserved []) rest (h, l) = accepted limit _ empty (curve-laid reserved rest [] h) tt
 written-read limit (sampled reserved (e ∷ es)) rest (h, l) =
@@ -135,7 +136,7 @@ module _ (limit : ℕ) (t : List ℕ) (b : Bytes t) where
   function-is (suc (suc (suc (suc (suc n))))) ps h d = absurd (omega (arith, h .known))
 
   -- a curve that is seen is what the standard writes
-  pub read-written : (s : Shape) → curveOf limit t ≡ is s → Begins limit t s
+  pub read-written : (s : Shape) → curveOf limit t ≡ good s → Begins limit t s
   unfolding Laid Within shapeOf halvesAt
   read-written empty h = curve-at empty 0 refl (laid limit t empty h .0) (omega arith)
   read-written (table zero) h = let w = laid limit t (table zero) h in absurd (omega (arith, w .0 .0))
@@ -146,8 +147,8 @@ module _ (limit : ℕ) (t : List ℕ) (b : Bytes t) where
 
 -- ---- the lone reader: a tag of the profile, and the words of its answer
 
-pub told-words : (start : ℕ) (c : Curve) → wordsOf start (shapeOf c) ≡ toldOf start c
-unfolding toldOf wordsOf shapeOf encoded parameters parameterCount
+pub told-words : (start : ℕ) (c : Curve) → wordsOf start (shapeOf c) ≡ recordTold start c
+unfolding recordTold wordsOf shapeOf encoded parameters parameterCount
 told-words start (sampled reserved []) = refl
 told-words start (sampled reserved (e ∷ es)) = refl
 told-words start (parametric reserved reserved2 (type0 g)) = refl
@@ -172,7 +173,7 @@ long c rest = omega (arith, length-append (curveElement c) rest, written-size c,
 some : (n : ℕ) → eqb (suc n) 0 ≡ false
 some n = ne-eqb (suc n) 0 (λ z. omega arith)
 
-pub lone-read : (walk : Walk) (limit : ℕ) (profile : List ℕ) (entry size : ℕ) (c : Curve) (rest : List ℕ) → Fits limit c → Tag profile entry size (curveElement c ++ rest) → trcOf walk limit profile entry size ≡ value (toldOf 12 c) (stepTold walk c)
+pub lone-read : (walk : Walk) (limit : ℕ) (profile : List ℕ) (entry size : ℕ) (c : Curve) (rest : List ℕ) → Fits limit c → Tag profile entry size (curveElement c ++ rest) → trcOf walk limit profile entry size ≡ value (recordTold 12 c) (stepTold walk c)
 unfolding trcOf answerOf Tag
 lone-read walk limit profile entry zero c rest f e =
     let l : entry + 12 ≤ length profile = omega (arith, ap length e, long c rest, length-drop entry profile) in
@@ -189,7 +190,7 @@ pub lone-written : (walk : Walk) (limit : ℕ) (profile : List ℕ) → Bytes pr
 unfolding Tag
 lone-written walk limit profile b entry size ws consumed h = by size (accepted-inside walk limit profile entry size ws consumed h)
   where
-    of : (size : ℕ) (t : List ℕ) → Bytes t → (s : Shape) → curveOf limit t ≡ is s → ws ≡ wordsOf 12 s → consumed ≡ stepOf walk s → ((x : List ℕ) → t ≡ x → Tag profile entry size x) → Lone walk limit profile entry size ws consumed
+    of : (size : ℕ) (t : List ℕ) → Bytes t → (s : Shape) → curveOf limit t ≡ good s → ws ≡ wordsOf 12 s → consumed ≡ stepOf walk s → ((x : List ℕ) → t ≡ x → Tag profile entry size x) → Lone walk limit profile entry size ws consumed
     of size t bt s seen w k stands =
         let c = read-written limit t bt s seen in
         record {

@@ -8,10 +8,12 @@ use mathlib.Core.List.{List}
 use lib.Dec.{ltb, leb}
 use lib.ListN.{length}
 use borrow.Author.Tests.{ltb-false}
+use Rattle.fields.proofs.Never.{never}
+use Rattle.fields.specs.Checked.{good}
 use Rattle.fields.proofs.Choice.{each}
 use Rattle.curve_meaning.specs.Answer.{Answer, value, absent, answerOf}
 use Rattle.curve_meaning.specs.Curve.{trcOf, curveOf, tagOf}
-use Rattle.curve_meaning.specs.Shape.{Shape, is, empty, table, para, sizeOf, stepOf}
+use Rattle.curve_meaning.specs.Shape.{Shape, empty, table, para, sizeOf, stepOf}
 use Rattle.curve_meaning.specs.declared.Walk.{Walk}
 use Rattle.curve_meaning.specs.declared.Walk.the-variants.{Crate, Book}
 use Rattle.curve_meaning.proofs.Laid.{Laid, laid}
@@ -26,7 +28,7 @@ laid-inside t (table n) (m, h) = h .whole
 laid-inside t (para type ps) h = h .whole
 
 -- the bytes that an accepted curve occupies are there
-pub curve-inside : (limit : ℕ) (t : List ℕ) (s : Shape) → curveOf limit t ≡ is s → sizeOf s ≤ length t
+pub curve-inside : (limit : ℕ) (t : List ℕ) (s : Shape) → curveOf limit t ≡ good s → sizeOf s ≤ length t
 curve-inside limit t s h = laid-inside t s (laid limit t s h .0)
 
 -- every curve has its first 12 bytes
@@ -66,10 +68,10 @@ module _ (walk : Walk) (limit : ℕ) (p : List ℕ) (entry size : ℕ) where
   behind : Behind (trcOf walk limit p entry size)
   unfolding trcOf
   behind =
-      let none : Behind absent = λ ws consumed h. let z : _≡_ {A = ℕ} 0 1 = cc in absurd (omega arith) in
+      let none : Behind absent = λ ws consumed h. never cc in
       each Behind (ltb (length p) (entry + 4)) _ _ (λ _. none)
       (λ _. each Behind (leb 1 size && ltb size 12) _ _ (λ _. none)
-      (λ _. each Behind (ltb (length p) (entry + size)) _ _ (λ _ ws consumed h. let z : _≡_ {A = ℕ} 0 1 = cc in absurd (omega arith))
+      (λ _. each Behind (ltb (length p) (entry + size)) _ _ (λ _ ws consumed h. never cc)
       (λ l ws consumed h. (ltb-false (length p) (entry + size) l, h))))
 
   pub accepted-inside : (ws : List ℕ) (consumed : ℕ) → trcOf walk limit p entry size ≡ value ws consumed → Accepted walk limit p entry size ws consumed

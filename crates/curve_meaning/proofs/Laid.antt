@@ -8,13 +8,14 @@ use mathlib.Core.List.{List}
 use lib.Dec.{ltb, eqb}
 use lib.ListN.{length, getD}
 use borrow.Author.Tests.{ne-eqb, le-ltb, ltb-false, eqb-true, eqb-false}
+use Rattle.fields.specs.Checked.{Checked, good, bad}
 use Rattle.fields.specs.Bytes.{u16At, u32At}
 use Rattle.fields.specs.Tag.{signatureOf}
 use Rattle.fields.specs.declared.Kind.the-variants.{Curv, Para}
 use Rattle.fields.proofs.Choice.{each, second-fails}
-use Rattle.curve_meaning.specs.Curve.{curveOf, tableOf, paraOf, divides}
+use Rattle.curve_meaning.specs.Curve.{curveOf, curvOf, paraOf, divides}
 use Rattle.curve_meaning.specs.Layout.{entryCount, entriesEnd, functionType, parameterCount, parametersEnd, parameters}
-use Rattle.curve_meaning.specs.Shape.{Shape, Seen, is, no, empty, table, para}
+use Rattle.curve_meaning.specs.Shape.{Shape, empty, table, para}
 
 -- the bytes t begin with a curveType of n entries
 pub record CurveType (t : List ℕ) (n : ℕ) : Type 0 where
@@ -52,8 +53,8 @@ steep type a h = by (divides type) refl
     by true e = ne-eqb a 0 (h e)
     by false e = refl
 
-pub accepted : (limit : ℕ) (t : List ℕ) (s : Shape) → Laid t s → Within limit s → curveOf limit t ≡ is s
-unfolding Laid Within curveOf tableOf paraOf signatureOf
+pub accepted : (limit : ℕ) (t : List ℕ) (s : Shape) → Laid t s → Within limit s → curveOf limit t ≡ good s
+unfolding Laid Within curveOf curvOf paraOf signatureOf
 accepted limit t empty h w =
     let l : 12 ≤ length t = omega (arith, h .whole) in
     simp (le-ltb (length t) 12 l, h .signature, h .count)
@@ -67,14 +68,14 @@ accepted limit t (para type ps) h w =
 
 -- ---- what is accepted is laid out so
 
-Facts : ℕ → List ℕ → Seen → Type 0
-Facts limit t (is s) = Laid t s × Within limit s
-Facts limit t (no n) = Unit
+Facts : ℕ → List ℕ → Checked Shape → Type 0
+Facts limit t (good s) = Laid t s × Within limit s
+Facts limit t (bad n) = Unit
 
 facts : (limit : ℕ) (t : List ℕ) → Facts limit t (curveOf limit t)
-unfolding Facts Laid Within curveOf tableOf paraOf
+unfolding Facts Laid Within curveOf curvOf paraOf
 facts limit t =
-    let P : Seen → Type 0 = Facts limit t in
+    let P : Checked Shape → Type 0 = Facts limit t in
     let n : ℕ = u32At t 8 in
     let type : ℕ = u16At t 8 in
     each P (ltb (length t) 12) _ _ (λ _. tt)
@@ -91,6 +92,6 @@ facts limit t =
     (λ d. (record { signature = eqb-true _ _ k; function = refl; known = ltb-false 4 type m; given = refl; whole = ltb-false (length t) _ e }, λ v. eqb-false _ 0 (second-fails (divides type) _ d v))))))
     (λ _. tt)))
 
-pub laid : (limit : ℕ) (t : List ℕ) (s : Shape) → curveOf limit t ≡ is s → Laid t s × Within limit s
+pub laid : (limit : ℕ) (t : List ℕ) (s : Shape) → curveOf limit t ≡ good s → Laid t s × Within limit s
 unfolding Facts
 laid limit t s h = subst (Facts limit t) h (facts limit t)

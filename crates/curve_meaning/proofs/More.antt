@@ -10,26 +10,28 @@ use mathlib.Core.Logic.{_⊎_, inl, inr}
 use lib.Dec.{ltb, leb, eqb}
 use lib.ListN.{length, take, drop}
 use borrow.Author.Tests.{ltb-true, ltb-false, eqb-true, eqb-false, le-leb, le-ltb, lt-ltb}
+use Rattle.fields.proofs.Never.{never}
+use Rattle.fields.specs.Checked.{Checked, bad}
+use Rattle.curve_meaning.specs.Shape.{Shape}
 use Rattle.fields.specs.Bytes.{u16At, u32At}
 use Rattle.fields.specs.Tag.{signatureOf}
 use Rattle.fields.specs.declared.Kind.the-variants.{Curv, Para}
 use Rattle.fields.proofs.Append.{u16-append, u32-append, words-append, longer, part-append, rest-append}
 use Rattle.fields.proofs.Grow.{Grows, choose, passes}
 use Rattle.curve_meaning.specs.Answer.{Answer, value, absent, refused, answerOf}
-use Rattle.curve_meaning.specs.Curve.{trcOf, curveOf, tableOf, paraOf, tagOf}
+use Rattle.curve_meaning.specs.Curve.{trcOf, curveOf, curvOf, paraOf, tagOf}
 use Rattle.curve_meaning.specs.Layout.{parameterCount}
-use Rattle.curve_meaning.specs.Shape.{Seen, no}
 use Rattle.curve_meaning.specs.declared.Walk.{Walk}
 
 -- the answers that may change: those of one refusal
 abbrev pub Is : ℕ → Answer → Type 0
 Is n a = a ≡ refused n
 
-abbrev pub No : ℕ → Seen → Type 0
-No n x = x ≡ no n
+abbrev pub No : ℕ → Checked Shape → Type 0
+No n x = x ≡ bad n
 
 -- what a curve's bytes say carries over to the answer
-answered : (walk : Walk) (start n : ℕ) (x y : Seen) → Grows (No n) x y → Grows (Is n) (answerOf walk start x) (answerOf walk start y)
+answered : (walk : Walk) (start n : ℕ) (x y : Checked Shape) → Grows (No n) x y → Grows (Is n) (answerOf walk start x) (answerOf walk start y)
 unfolding answerOf
 answered walk start n x y (inl e) = inl (rw e)
 answered walk start n x y (inr e) = inr (ap (answerOf walk start) e)
@@ -37,8 +39,8 @@ answered walk start n x y (inr e) = inr (ap (answerOf walk start) e)
 -- ---- bytes behind the curve
 
 module _ (t q : List ℕ) where
-  table-more : (limit : ℕ) → 12 ≤ length t → Grows (No 11) (tableOf limit t) (tableOf limit (t ++ q))
-  unfolding tableOf
+  table-more : (limit : ℕ) → 12 ≤ length t → Grows (No 11) (curvOf limit t) (curvOf limit (t ++ q))
+  unfolding curvOf
   table-more limit h =
       let n : ℕ = u32At t 8 in
       rw (u32-append t q 8 h)
@@ -118,8 +120,8 @@ more-bytes walk limit p q entry size = by (ltb (length p) (entry + 4)) refl
 
 -- ---- a higher limit
 
-table-limit : (low high : ℕ) (t : List ℕ) → low ≤ high → Grows (No 10) (tableOf low t) (tableOf high t)
-unfolding tableOf
+table-limit : (low high : ℕ) (t : List ℕ) → low ≤ high → Grows (No 10) (curvOf low t) (curvOf high t)
+unfolding curvOf
 table-limit low high t h =
     let n : ℕ = u32At t 8 in
     choose (No 10) (eqb n 0) (λ _. inr refl)
@@ -145,10 +147,10 @@ more-limit walk low high p entry size h =
 pub value-stays : (walk : Walk) (low high : ℕ) (p q : List ℕ) (entry size : ℕ) (ws : List ℕ) (consumed : ℕ) → low ≤ high → trcOf walk low p entry size ≡ value ws consumed → trcOf walk high (p ++ q) entry size ≡ value ws consumed
 value-stays walk low high p q entry size ws consumed h v =
     elim (more-limit walk low high p entry size h) [
-      | inl e ↦ (let z : _≡_ {A = ℕ} 0 1 = cc in absurd (omega arith))
+      | inl e ↦ (never cc)
       | inr l ↦ elim (more-bytes walk high p q entry size) [
-        | inl s ↦ (let n = short walk high p entry size (s .four) in let z : _≡_ {A = ℕ} 0 1 = cc in absurd (omega arith))
-        | inr (inl e) ↦ (let z : _≡_ {A = ℕ} 0 1 = cc in absurd (omega arith))
+        | inl s ↦ (let n = short walk high p entry size (s .four) in never cc)
+        | inr (inl e) ↦ (never cc)
         | inr (inr e) ↦ e ∙ l ∙ v
       ]
     ]

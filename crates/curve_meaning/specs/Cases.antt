@@ -6,7 +6,7 @@ use lib.IntN.{ℤ, pos, negsuc}
 use lib.ListN.{take, drop, replicate}
 use Rattle.fields.specs.Bytes.{signed}
 use Rattle.fields.specs.House.{tagSize}
-use Rattle.curve_meaning.specs.Answer.{Answer, value, absent, refused, Going, on, stop, goingOf, slotWith, seenIn}
+use Rattle.curve_meaning.specs.Answer.{Answer, value, absent, refused, stepChecked, slotWith, inSlot}
 use Rattle.curve_meaning.specs.Curve.{trcOf, curveOf}
 use Rattle.curve_meaning.specs.Shape.{Shape, empty, table, tableShape}
 use Rattle.curve_meaning.specs.declared.Walk.{Walk}
@@ -20,7 +20,7 @@ pub data Case : Type 0 where
   -- walk, limit, profile and size, and the parameters of the answer's record as signed numbers
   means : Walk → ℕ → List ℕ → ℕ → List ℤ → Case
   -- walk, limit, a curve's bytes and a slot, and how far the walk goes on and the slot as it is left
-  leaves : Walk → ℕ → List ℕ → List ℕ → Going → List ℕ → Case
+  leaves : Walk → ℕ → List ℕ → List ℕ → Checked ℕ → List ℕ → Case
   -- a number of entries, and the curve
   counts : ℕ → Shape → Case
 
@@ -35,8 +35,8 @@ Holds (gives walk limit profile size a) = trcOf walk limit profile 0 size ≡ a
 Holds (givesAt profile entry size a) = trcOf Crate 2 profile entry size ≡ a
 Holds (means walk limit profile size zs) = signedParameters (trcOf walk limit profile 0 size) ≡ zs
 Holds (leaves walk limit t slot g left) =
-    let x = seenIn slot (curveOf limit t) in
-    (goingOf walk x ≡ g) × (slotWith tagSize slot x ≡ left)
+    let x = inSlot slot (curveOf limit t) in
+    (stepChecked walk x ≡ g) × (slotWith tagSize slot x ≡ left)
 Holds (counts n s) = tableShape n ≡ s
 
 unfoldable pub All : List Case → Type 0
@@ -119,7 +119,7 @@ cases =
     gives Book 1 (curv ++ (0 ∷ 0 ∷ 0 ∷ 1 ∷ 1 ∷ 2 ∷ [])) 14 (value (1 ∷ 12 ∷ 1 ∷ 0 ∷ 0 ∷ 0 ∷ 0 ∷ 0 ∷ 0 ∷ 0 ∷ []) 14) ∷
     counts 0 empty ∷
     counts 1 (table 1) ∷
-    leaves Crate 4096 two (replicate 11 7) (on 16) (1 ∷ 12 ∷ 2 ∷ 0 ∷ 0 ∷ 0 ∷ 0 ∷ 0 ∷ 0 ∷ 0 ∷ 7 ∷ []) ∷
-    leaves Crate 4096 many (replicate 10 7) (stop 10) (replicate 10 7) ∷
-    leaves Crate 4096 many (replicate 9 7) (stop 14) (replicate 9 7) ∷
+    leaves Crate 4096 two (replicate 11 7) (good 16) (1 ∷ 12 ∷ 2 ∷ 0 ∷ 0 ∷ 0 ∷ 0 ∷ 0 ∷ 0 ∷ 0 ∷ 7 ∷ []) ∷
+    leaves Crate 4096 many (replicate 10 7) (bad 10) (replicate 10 7) ∷
+    leaves Crate 4096 many (replicate 9 7) (bad 14) (replicate 9 7) ∷
     []

@@ -4,6 +4,7 @@ use mathlib.Core.Bool.{cond}
 use mathlib.Core.List.{List, [], _∷_}
 use lib.Dec.{eqb}
 use lib.ListN.{getD}
+use Rattle.fields.specs.Checked.{Checked, good, bad}
 use Rattle.curve_meaning.specs.Layout.{entriesEnd, parametersEnd, parameterCount}
 use Rattle.curve_meaning.specs.declared.Walk.{Walk}
 use Rattle.curve_meaning.specs.declared.Walk.the-variants.{Crate, Book}
@@ -17,11 +18,6 @@ pub data Shape : Type 0 where
 -- so many entries: an empty curve, or a table
 unfoldable pub tableShape : ℕ → Shape
 tableShape n = cond (eqb n 0) empty (table n)
-
--- what the bytes of a curve say: the curve, or the number of the refusal
-pub data Seen : Type 0 where
-  is : Shape → Seen
-  no : ℕ → Seen
 
 -- the bytes that a curve occupies, on either walk
 unfoldable pub sizeOf : Shape → ℕ

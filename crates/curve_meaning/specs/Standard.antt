@@ -30,14 +30,14 @@ pub record Begins (limit : ℕ) (t : List ℕ) (s : Shape) : Type 0 where
   pub is : t ≡ curveElement curve ++ rest
 
 -- the words of a record: kind, where the data start, how many there are, and g a b c d e f, unused ones 0
-unfoldable pub toldOf : (start : ℕ) → Curve → List ℕ
-toldOf start (sampled reserved []) = 0 ∷ start ∷ 0 ∷ 0 ∷ 0 ∷ 0 ∷ 0 ∷ 0 ∷ 0 ∷ 0 ∷ []
-toldOf start (sampled reserved (e ∷ es)) = 1 ∷ start ∷ length (e ∷ es) ∷ 0 ∷ 0 ∷ 0 ∷ 0 ∷ 0 ∷ 0 ∷ 0 ∷ []
-toldOf start (parametric reserved reserved2 (type0 g)) = 2 ∷ start ∷ 1 ∷ g ∷ 0 ∷ 0 ∷ 0 ∷ 0 ∷ 0 ∷ 0 ∷ []
-toldOf start (parametric reserved reserved2 (type1 g a b)) = 3 ∷ start ∷ 3 ∷ g ∷ a ∷ b ∷ 0 ∷ 0 ∷ 0 ∷ 0 ∷ []
-toldOf start (parametric reserved reserved2 (type2 g a b c)) = 4 ∷ start ∷ 4 ∷ g ∷ a ∷ b ∷ c ∷ 0 ∷ 0 ∷ 0 ∷ []
-toldOf start (parametric reserved reserved2 (type3 g a b c d)) = 5 ∷ start ∷ 5 ∷ g ∷ a ∷ b ∷ c ∷ d ∷ 0 ∷ 0 ∷ []
-toldOf start (parametric reserved reserved2 (type4 g a b c d e f)) = 6 ∷ start ∷ 7 ∷ g ∷ a ∷ b ∷ c ∷ d ∷ e ∷ f ∷ []
+unfoldable pub recordTold : (start : ℕ) → Curve → List ℕ
+recordTold start (sampled reserved []) = 0 ∷ start ∷ 0 ∷ 0 ∷ 0 ∷ 0 ∷ 0 ∷ 0 ∷ 0 ∷ 0 ∷ []
+recordTold start (sampled reserved (e ∷ es)) = 1 ∷ start ∷ length (e ∷ es) ∷ 0 ∷ 0 ∷ 0 ∷ 0 ∷ 0 ∷ 0 ∷ 0 ∷ []
+recordTold start (parametric reserved reserved2 (type0 g)) = 2 ∷ start ∷ 1 ∷ g ∷ 0 ∷ 0 ∷ 0 ∷ 0 ∷ 0 ∷ 0 ∷ []
+recordTold start (parametric reserved reserved2 (type1 g a b)) = 3 ∷ start ∷ 3 ∷ g ∷ a ∷ b ∷ 0 ∷ 0 ∷ 0 ∷ 0 ∷ []
+recordTold start (parametric reserved reserved2 (type2 g a b c)) = 4 ∷ start ∷ 4 ∷ g ∷ a ∷ b ∷ c ∷ 0 ∷ 0 ∷ 0 ∷ []
+recordTold start (parametric reserved reserved2 (type3 g a b c d)) = 5 ∷ start ∷ 5 ∷ g ∷ a ∷ b ∷ c ∷ d ∷ 0 ∷ 0 ∷ []
+recordTold start (parametric reserved reserved2 (type4 g a b c d e f)) = 6 ∷ start ∷ 7 ∷ g ∷ a ∷ b ∷ c ∷ d ∷ e ∷ f ∷ []
 
 -- how far a walk goes on behind a curve: by the bytes that are written; but the crate walk stays where there is no entry
 unfoldable pub stepTold : Walk → Curve → ℕ
@@ -56,6 +56,6 @@ pub record Lone (walk : Walk) (limit : ℕ) (profile : List ℕ) (entry size : �
   pub curve : Curve
   pub rest : List ℕ
   pub fits : Fits limit curve
-  pub words-are : ws ≡ toldOf 12 curve
+  pub words-are : ws ≡ recordTold 12 curve
   pub consumed-is : consumed ≡ stepTold walk curve
   pub stands : Tag profile entry size (curveElement curve ++ rest)

@@ -4,11 +4,11 @@ use Prim.Native.Nat.{ℕ, _≤_}
 use native.Mathlib.Omega.{arith}
 use mathlib.Core.Path.{_≡_, refl, ap, subst, _∙_}
 use mathlib.Core.List.{List}
-use Rattle.fields.specs.Refusals.{numberOf}
+use Rattle.fields.specs.Refusals.{refusalNumber}
 use Rattle.fields.specs.declared.Refusal.{Refusal}
 use Rattle.fields.specs.declared.Refusal.the-variants.{PastProfile, TagTooShort, OtherLut, GridOverflow, GridZero, GridTooLarge, GridDimension, EntrySize, OtherCurve, TooManyEntries, CurveRunsOut, FunctionType, ZeroDivision, TooFewSlots, BadTable, GridOverLimit, BadChad, LastPoint}
 use Rattle.curve_meaning.specs.declared.CurveAnswer.{CurveAnswer}
-use Rattle.lut_meaning.specs.Answer.{State, mft, abm, absent as State·absent, refused as State·refused, stateFrom, leftBy as Lut·leftBy}
+use Rattle.lut_meaning.specs.Answer.{State, mft, abm, absent as State·absent, refused as State·refused, stateFrom, slotsWith as Lut·slotsWith}
 use Rattle.lut_meaning.specs.declared.LutAnswer.{LutAnswer}
 use Rattle.small_meaning.specs.declared.ChadAnswer.{ChadAnswer}
 use Rattle.small_meaning.specs.declared.CicpAnswer.{CicpAnswer}
@@ -17,13 +17,13 @@ use Rattle.small_meaning.specs.declared.MeasAnswer.{MeasAnswer}
 use Rattle.small_meaning.specs.declared.SigAnswer.{SigAnswer}
 use Rattle.small_meaning.specs.declared.ViewAnswer.{ViewAnswer}
 use Rattle.small_meaning.specs.declared.XyzAnswer.{XyzAnswer}
-use Rattle.text_meaning.specs.Answer.{Answer as Text·Answer, leftBy as Text·leftBy}
+use Rattle.text_meaning.specs.Answer.{Answer as Text·Answer, slotsWith as Text·slotsWith}
 use Rattle.text_meaning.specs.declared.TextAnswer.{TextAnswer}
-use Rattle.demands.specs.Readers.{Small, chad, sig, date, meas, view, xyz, cicp, Reader, lut, trc, string, small, Call, SmallResult, smallNumbers, Result, numbers, meaning, left, Outcome, value, default, absent, refused, outcome, lutOutcome, smallOutcome, textOutcome, Library, ends, Promised}
+use Rattle.demands.specs.Readers.{Small, chad, sig, date, meas, view, xyz, cicp, Reader, lut, trc, string, small, Call, SmallResult, smallNumbers, Result, numbers, meaning, slotsAfter, Outcome, value, default, absent, refused, outcome, lutOutcome, smallOutcome, textOutcome, Library, ends, Promised}
 
 -- ---- numbers of refusals
 
-numbered-so : (why : Refusal) → (1 ≤ numberOf why) × (numberOf why ≤ 18)
+numbered-so : (why : Refusal) → (1 ≤ refusalNumber why) × (refusalNumber why ≤ 18)
 numbered-so PastProfile = (omega arith, omega arith)
 numbered-so TagTooShort = (omega arith, omega arith)
 numbered-so OtherLut = (omega arith, omega arith)
@@ -103,24 +103,24 @@ Spares default = Unit
 Spares absent = Unit
 Spares (refused n) = Unit
 
-pub left-spared : (r : Reader) (c : Call) → Spares (outcome r (meaning r c)) → left r c ≡ c .slots
-left-spared (lut walk) c = by (meaning (lut walk) c .state) _
+pub slots-spared : (r : Reader) (c : Call) → Spares (outcome r (meaning r c)) → slotsAfter r c ≡ c .slots
+slots-spared (lut walk) c = by (meaning (lut walk) c .state) _
   where
-    by : (s : State) (words : List ℕ) → Spares (lutOutcome s) → Lut·leftBy s words (c .slots) ≡ c .slots
+    by : (s : State) (words : List ℕ) → Spares (lutOutcome s) → Lut·slotsWith s words (c .slots) ≡ c .slots
     by (mft f) words h = refl
     by (abm f) words h = absurd h
     by State·absent words h = refl
     by (State·refused n) words h = refl
-left-spared string c = by (meaning string c) _
+slots-spared string c = by (meaning string c) _
   where
-    by : (a : Text·Answer) (words : List ℕ) → Spares (textOutcome a) → Text·leftBy a words (c .slots) ≡ c .slots
+    by : (a : Text·Answer) (words : List ℕ) → Spares (textOutcome a) → Text·slotsWith a words (c .slots) ≡ c .slots
     by (Text·Answer.text s) words h = refl
     by (Text·Answer.desc s u) words h = refl
     by (Text·Answer.mluc n) words h = absurd h
     by Text·Answer.absent words h = refl
     by (Text·Answer.refused n) words h = refl
-left-spared (trc walk) c = λ h. refl
-left-spared (small s) c = λ h. refl
+slots-spared (trc walk) c = λ h. refl
+slots-spared (small s) c = λ h. refl
 
 -- ---- of a library that keeps the contracts
 
@@ -129,4 +129,4 @@ module _ (l : Library) (p : Promised l) where
   ends-so r c = ap (outcome r) (p .answers r c)
 
   pub leaves-spared : (r : Reader) (c : Call) → Spares (ends l r c) → l .leaves r c ≡ c .slots
-  leaves-spared r c h = p .leaves-so r c ∙ left-spared r c (subst Spares (ends-so r c) h)
+  leaves-spared r c h = p .leaves-so r c ∙ slots-spared r c (subst Spares (ends-so r c) h)

@@ -7,26 +7,27 @@ use mathlib.Core.Path.{_≡_, refl, sym, ap, subst, _∙_}
 use mathlib.Core.List.{List}
 use mathlib.Core.Logic.{_⊎_, inl, inr}
 use lib.ListN.{length, drop}
+use Rattle.fields.proofs.Never.{never}
 use Rattle.lut_clut_meaning.specs.Table.{Table, lengthOf}
 use Rattle.curve_meaning.specs.Answer.{Answer as Curve·Answer}
 use Rattle.curve_meaning.specs.Shape.{Shape, empty, sizeOf, wordsOf}
 use Rattle.curve_meaning.specs.declared.Walk.{Walk}
 use Rattle.curve_meaning.proofs.Inside.{accepted-inside}
-use Rattle.lut_run_meaning.specs.Run.{Placed, placed, Stands, recordsOf, dataEnd}
+use Rattle.lut_run_meaning.specs.Run.{Placed, placed, CurveStands, recordsOf, dataEnd}
 use Rattle.lut_run_meaning.proofs.Records.{words-end, record-at, each-at}
 use Rattle.lut_mft_meaning.specs.Answer.{Fields}
 use Rattle.lut_meaning.specs.Answer.{mft, abm, Abm, Answer as Lut·Answer}
 use Rattle.lut_meaning.specs.Layout.{planOf}
 use Rattle.lut_meaning.specs.Parts.{curvesOf}
 use Rattle.lut_meaning.proofs.Inside.{MatrixTold, GridTold, lut-inside, mft-inside as mft-in-tag}
-use Rattle.text_meaning.specs.Answer.{Answer as Text·Answer, leftBy as Text·leftBy}
+use Rattle.text_meaning.specs.Answer.{Answer as Text·Answer, slotsWith as Text·slotsWith}
 use Rattle.text_meaning.specs.Mluc.{even, recordsIn, wordsIn}
 use Rattle.text_meaning.proofs.Found.{Value}
 use Rattle.text_meaning.proofs.Inside.{ReadAt, ValueInside, value-inside}
 use Rattle.small_meaning.specs.Answer.{Answer as Small·Answer}
 use Rattle.small_meaning.proofs.Zone.{chad-alone, sig-alone, view-alone, xyz-alone, cicp-alone, meas-alone, date-alone}
 use Rattle.small_meaning.proofs.Inside.{chad-inside, sig-inside, view-inside, xyz-inside, cicp-inside, meas-inside, date-inside}
-use Rattle.demands.specs.Readers.{Small, chad, sig, date, meas, view, xyz, cicp, lut, trc, string, small, Call, smallOf, meaning, left, value, smallOutcome, Library, ends, Promised, says}
+use Rattle.demands.specs.Readers.{Small, chad, sig, date, meas, view, xyz, cicp, lut, trc, string, small, Call, smallOf, meaning, slotsAfter, value, smallOutcome, Library, ends, Promised, answered}
 use Rattle.demands.specs.Demands.{tag, curveTag, curveAt, recordIn, CurveInside, NoMatrix, MatrixInside, NoGrid, GridInside, AbmInside, MftInside, LocalizedInside, TextInside, FieldsInside, SameFields, onProfile, Demand1}
 use Rattle.demands.proofs.Ends.{Spares, numbered, ends-so, leaves-spared}
 
@@ -39,9 +40,9 @@ data-end s = words-end 0 s ∙ zero-add (sizeOf s)
 
 with-value : {P : Type 0} (a : Small·Answer) → ((ns : List ℕ) → a ≡ Small·Answer.value ns → P) → smallOutcome a ≡ value → P
 with-value (Small·Answer.value ns) f e = f ns refl
-with-value Small·Answer.default f e = let z : _≡_ {A = ℕ} 0 1 = cc in absurd (omega arith)
-with-value Small·Answer.absent f e = let z : _≡_ {A = ℕ} 0 1 = cc in absurd (omega arith)
-with-value (Small·Answer.refused n) f e = let z : _≡_ {A = ℕ} 0 1 = cc in absurd (omega arith)
+with-value Small·Answer.default f e = never cc
+with-value Small·Answer.absent f e = never cc
+with-value (Small·Answer.refused n) f e = never cc
 
 small-inside : (s : Small) (c : Call) (ns : List ℕ) → smallOf s (c .profile) (c .entry) (c .size) ≡ Small·Answer.value ns → FieldsInside s c
 small-inside chad c ns e = let i = chad-inside (c .profile) (c .entry) (c .size) ns e in (i .in-tag, i .in-profile)
@@ -81,17 +82,17 @@ grid-of t a f table start bytes size within (inr m) =
     inr record { there = m .0; in-tag = omega (arith, start, m .1, within); grid-is = m .3; start-is = start ∙ m .1; size-is = size ∙ m .2 }
 
 module _ (l : Library) (p : Promised l) where
-  abm-inside : (walk : Walk) (c : Call) (f : Abm) → says l (lut walk) c .state ≡ abm f → AbmInside walk c (says l (lut walk) c) f (l .leaves (lut walk) c)
+  abm-inside : (walk : Walk) (c : Call) (f : Abm) → answered l (lut walk) c .state ≡ abm f → AbmInside walk c (answered l (lut walk) c) f (l .leaves (lut walk) c)
   abm-inside walk c f h =
       let e = p .answers (lut walk) c in
       let s : meaning (lut walk) c .state ≡ abm f = ap (λ (a : Lut·Answer). a .state) (sym e) ∙ h in
       let i = lut-inside walk (c .entries) (c .points) (c .profile) (c .entry) (c .size) (length (c .slots)) f s in
       let curves : List Placed = curvesOf walk (c .entries) (tag c) (planOf (tag c)) in
-      let recorded : (k : ℕ) → k < f .a + f .m + f .b → CurveInside (c .entries) (tag c) (recordIn (left (lut walk) c) k) (curveAt walk c k) =
+      let recorded : (k : ℕ) → k < f .a + f .m + f .b → CurveInside (c .entries) (tag c) (recordIn (slotsAfter (lut walk) c) k) (curveAt walk c k) =
       λ k low.
       let few : k < length curves = omega (arith, low, i .curves-counted) in
       let is = record-at curves (drop (length (recordsOf curves)) (c .slots)) (placed 0 empty) k few in
-      let stands = each-at (Stands (c .entries) (tag c)) curves (placed 0 empty) (i .curves-in-tag) k few in
+      let stands = each-at (CurveStands (c .entries) (tag c)) curves (placed 0 empty) (i .curves-in-tag) k few in
       rw s record { record-is = is; stands = stands; data-in-tag = omega (arith, ap dataEnd is ∙ words-end (curveAt walk c k .at) (curveAt walk c k .shape), stands .ends-in-tag) } in
       rw (e, p .leaves-so (lut walk) c)
       record {
@@ -106,7 +107,7 @@ module _ (l : Library) (p : Promised l) where
         index-in-table = λ sized index channel valid. i .entry-in-table sized index channel (valid .0) (valid .1);
       }
 
-  mft-inside : (walk : Walk) (c : Call) (f : Fields) → says l (lut walk) c .state ≡ mft f → MftInside c (says l (lut walk) c) f
+  mft-inside : (walk : Walk) (c : Call) (f : Fields) → answered l (lut walk) c .state ≡ mft f → MftInside c (answered l (lut walk) c) f
   mft-inside walk c f h =
       let e = p .answers (lut walk) c in
       let s : meaning (lut walk) c .state ≡ mft f = ap (λ (a : Lut·Answer). a .state) (sym e) ∙ h in
@@ -125,15 +126,15 @@ module _ (l : Library) (p : Promised l) where
         index-in-table = λ index channel valid. i .1 .entry-in-table index channel (valid .0) (valid .1);
       }
 
-  curve-inside : (walk : Walk) (c : Call) (words : List ℕ) (consumed : ℕ) → says l (trc walk) c ≡ Curve·Answer.value words consumed → (dataEnd words ≤ length (curveTag c)) × (c .entry + c .size ≤ length (c .profile))
+  curve-inside : (walk : Walk) (c : Call) (words : List ℕ) (consumed : ℕ) → answered l (trc walk) c ≡ Curve·Answer.value words consumed → (dataEnd words ≤ length (curveTag c)) × (c .entry + c .size ≤ length (c .profile))
   curve-inside walk c words consumed h =
       let i = accepted-inside walk (c .entries) (c .profile) (c .entry) (c .size) words consumed (sym (p .answers (trc walk) c) ∙ h) in
       (omega (arith, ap dataEnd (i .curve .record-is) ∙ data-end (i .curve .shape), i .curve-in-tag), i .tag-in-profile)
 
-  text-inside : (c : Call) → TextInside c (l .leaves string c) (says l string c)
+  text-inside : (c : Call) → TextInside c (l .leaves string c) (answered l string c)
   text-inside c = rw (p .leaves-so string c, p .answers string c) (by (meaning string c) (value-inside (c .profile) (c .entry) (c .size) (length (c .slots))))
     where
-      by : (a : Text·Answer) → (Value a → ValueInside (c .profile) (c .entry) (c .size) a) → TextInside c (Text·leftBy a (wordsIn (recordsIn (tag c) .records)) (c .slots)) a
+      by : (a : Text·Answer) → (Value a → ValueInside (c .profile) (c .entry) (c .size) a) → TextInside c (Text·slotsWith a (wordsIn (recordsIn (tag c) .records)) (c .slots)) a
       by (Text·Answer.text s) h = (h tt .tag-in-profile, h tt .ranges-in-tag)
       by (Text·Answer.desc s u) h = (h tt .tag-in-profile, h tt .ranges-in-tag .0, h tt .ranges-in-tag .1)
       by (Text·Answer.mluc n) h = (h tt .tag-in-profile, λ k low. localized (tag c) k _ (h tt .ranges-in-tag (c .slots) k low))
@@ -143,7 +144,7 @@ module _ (l : Library) (p : Promised l) where
   fields-inside : (s : Small) (c : Call) → ends l (small s) c ≡ value → FieldsInside s c
   fields-inside s c h = with-value (smallOf s (c .profile) (c .entry) (c .size)) (small-inside s c) (sym (ends-so l p (small s) c) ∙ h)
 
-  fields-alone : (s : Small) (c : Call) (q : List ℕ) → ends l (small s) c ≡ value → length (c .profile) ≤ length q → SameFields s c q → says l (small s) (onProfile q c) ≡ says l (small s) c
+  fields-alone : (s : Small) (c : Call) (q : List ℕ) → ends l (small s) c ≡ value → length (c .profile) ≤ length q → SameFields s c q → answered l (small s) (onProfile q c) ≡ answered l (small s) c
   fields-alone s c q h long same =
       let e = with-value (smallOf s (c .profile) (c .entry) (c .size)) (small-alone s c q long same) (sym (ends-so l p (small s) c) ∙ h) in
       p .answers (small s) (onProfile q c) ∙ e ∙ sym (p .answers (small s) c)

@@ -7,36 +7,37 @@ use mathlib.Core.Bool.{not, _&&_, _||_}
 use mathlib.Core.List.{List}
 use lib.Dec.{ltb, leb, eqb}
 use lib.ListN.{length, getD, drop}
+use Rattle.fields.specs.Checked.{Checked, good, bad}
 use Rattle.fields.specs.Bytes.{u32At, bytesAt, wordsAt}
 use Rattle.fields.specs.Place.{tagAt, countedSize}
-use Rattle.fields.specs.Refusals.{numberOf}
+use Rattle.fields.specs.Refusals.{refusalNumber}
 use Rattle.fields.specs.Tag.{signatureOf}
 use Rattle.fields.specs.declared.Kind.the-variants.{Curv, Para, Text, Mluc, Desc, Sf32}
 use Rattle.fields.proofs.Choice.{each}
 use Rattle.fields.proofs.Numbers.{nameOf}
-use Rattle.curve_meaning.specs.Answer.{Answer as Curve·Answer, answerOf, paper as Curve·paper}
-use Rattle.curve_meaning.specs.Curve.{trcOf, curveOf, tableOf, paraOf, divides, tagOf as Curve·tagOf}
+use Rattle.curve_meaning.specs.Answer.{Answer as Curve·Answer, answerOf, inNumbers as Curve·inNumbers}
+use Rattle.curve_meaning.specs.Curve.{trcOf, curveOf, curvOf, paraOf, divides, tagOf as Curve·tagOf}
 use Rattle.curve_meaning.specs.Layout.{entryCount, entriesEnd, functionType, parameterCount, parametersEnd, parameters}
-use Rattle.curve_meaning.specs.Shape.{empty, table, para, Seen, is, no, recordWords, wordsOf}
+use Rattle.curve_meaning.specs.Shape.{Shape, empty, table, para, recordWords, wordsOf}
 use Rattle.curve_meaning.specs.declared.Walk.{Walk}
 use Rattle.curve_meaning.proofs.Unique.{resultFrom as Curve·resultFrom}
-use Rattle.lut_run_meaning.specs.Run.{entryAt, runAt}
+use Rattle.lut_run_meaning.specs.Run.{curveAtOffset, runAt}
 use Rattle.lut_run_meaning.proofs.Runs.{run-induct}
-use Rattle.lut_clut_meaning.specs.Clut.{Seen as Clut·Seen, is as Clut·is, no as Clut·no, clutOf, shapeOf, gridAt, tableAt, overflows, mostEntries, some, isFlat}
-use Rattle.lut_clut_meaning.specs.Table.{pointsOf, entriesOf, lengthOf, lastOf}
+use Rattle.lut_clut_meaning.specs.Clut.{clutOf, shapeOf, gridAt, tableAt, overflows, mostEntries, some, isFlat}
+use Rattle.lut_clut_meaning.specs.Table.{Table, pointsOf, entriesOf, lengthOf, lastOf}
 use Rattle.lut_mft_meaning.specs.Answer.{State as Mft·State, answerOf as Mft·answerOf}
 use Rattle.lut_mft_meaning.specs.Layout.{isMft, tablesStart, tablesEnd, colourTable}
 use Rattle.lut_mft_meaning.specs.Mft.{mftOf, numbersOf, tablesOf, badNumbers}
-use Rattle.lut_meaning.specs.Abm.{abmOf, withTable, judgedOf, recordedOf, valueFrom, tableOf as clutIn}
-use Rattle.lut_meaning.specs.Answer.{State, Answer as Lut·Answer, stateFrom, paper as Lut·paper, mftState, orRefused}
-use Rattle.lut_meaning.specs.Judged.{Judged, good, bad, ended, andThen}
+use Rattle.lut_meaning.specs.Abm.{abmOf, withTable, checkedOf, recordedOf, valueFrom, colourTableOf as clutIn}
+use Rattle.lut_meaning.specs.Answer.{State, Answer as Lut·Answer, stateFrom, inNumbers as Lut·inNumbers, mftState, orRefused}
+use Rattle.lut_meaning.specs.Checks.{ended, andThen}
 use Rattle.lut_meaning.specs.Layout.{inputs, outputs, clutOffset, matrixOffset, planOf, recordsNeeded}
 use Rattle.lut_meaning.specs.Lut.{lutOf, byType as Lut·byType, isAbm, tagOf as Lut·tagOf}
-use Rattle.lut_meaning.specs.Parts.{runsJudged, matrixJudged}
+use Rattle.lut_meaning.specs.Parts.{runsChecked, matrixChecked}
 use Rattle.lut_meaning.proofs.Unique.{answerTo, lutTo}
-use Rattle.text_meaning.specs.Answer.{Answer as Text·Answer, paper as Text·paper}
+use Rattle.text_meaning.specs.Answer.{Answer as Text·Answer, inNumbers as Text·inNumbers}
 use Rattle.text_meaning.specs.Layout.{asciiEnd}
-use Rattle.text_meaning.specs.Mluc.{End as Mluc·End, whole as Mluc·whole, stopped as Mluc·stopped, header, string as string-fault, recordsIn, recordsAsked, recordWords as textWords}
+use Rattle.text_meaning.specs.Mluc.{RecordsEnd as Mluc·RecordsEnd, whole as Mluc·whole, stopped as Mluc·stopped, header, string as string-fault, recordsIn, recordsAsked, recordWords as textWords}
 use Rattle.text_meaning.specs.Text.{stringOf, byType as Text·byType, textOf, mlucOf, descOf, endedBy, slottedOf, tagOf as Text·tagOf}
 use Rattle.text_meaning.proofs.Unique.{resultTo as Text·resultTo}
 use Rattle.small_meaning.specs.Answer.{Answer as Small·Answer}
@@ -44,7 +45,7 @@ use Rattle.small_meaning.specs.Layout.{nineNumbers, signatureIn, dateBytes, mea
 use Rattle.small_meaning.specs.Order.{answerTo as Small·answerTo}
 use Rattle.small_meaning.specs.Small.{matrixOf, chadOf, windowOf, tripleOf}
 use Rattle.small_meaning.specs.declared.Found.{Found}
-use Rattle.lut_view_meaning.specs.Answer.{Told, paper as Table·paper}
+use Rattle.lut_view_meaning.specs.Answer.{Answer, inNumbers as Table·inNumbers}
 use Rattle.lut_view_meaning.specs.View.{tableBy, entryOf}
 use Rattle.demands.specs.Readers.{Small, chad, sig, date, meas, view, xyz, cicp, Reader, lut, trc, string, small, Call, smallNumbers, smallOf, numbers, meaning, Promised}
 use Rattle.demands.specs.Demands.{Demand1, Demand2, Demand3}
@@ -55,7 +56,7 @@ use Rattle.demands.proofs.Third.{demand3}
 
 -- a refusal's number is one of the eighteen
 abbrev Known : ℕ → Type 0
-Known n = numberOf (nameOf n) ≡ n
+Known n = refusalNumber (nameOf n) ≡ n
 
 -- ---- the small readers
 
@@ -96,12 +97,12 @@ small-shown cicp p at size = by-order (Shown cicp) _ _ _ _ refl refl refl refl
 -- ---- the tone curve
 
 -- what is seen is a curve, or refused with a known number
-SeenKnown : Seen → Type 0
-SeenKnown (is s) = Unit
-SeenKnown (no n) = Known n
+SeenKnown : Checked Shape → Type 0
+SeenKnown (good s) = Unit
+SeenKnown (bad n) = Known n
 
 curve-known : (limit : ℕ) (t : List ℕ) → SeenKnown (curveOf limit t)
-unfolding SeenKnown curveOf tableOf paraOf
+unfolding SeenKnown curveOf curvOf paraOf
 curve-known limit t =
     let P = SeenKnown in
     let n = entryCount t in
@@ -116,19 +117,19 @@ curve-known limit t =
     (λ _. each P (divides type && eqb (getD (parameters t) 1 0) 0) _ _ (λ _. refl) (λ _. tt))))
     (λ _. refl)))
 
-trc-shown : (walk : Walk) (limit : ℕ) (p : List ℕ) (at size : ℕ) → Curve·paper (Curve·resultFrom (trcOf walk limit p at size)) ≡ trcOf walk limit p at size
+trc-shown : (walk : Walk) (limit : ℕ) (p : List ℕ) (at size : ℕ) → Curve·inNumbers (Curve·resultFrom (trcOf walk limit p at size)) ≡ trcOf walk limit p at size
 unfolding trcOf SeenKnown answerOf wordsOf
 trc-shown walk limit p at size =
-    let P : Curve·Answer → Type 0 = λ a. Curve·paper (Curve·resultFrom a) ≡ a in
+    let P : Curve·Answer → Type 0 = λ a. Curve·inNumbers (Curve·resultFrom a) ≡ a in
     each P (ltb (length p) (at + 4)) _ _ (λ _. refl)
     (λ _. each P (leb 1 size && ltb size 12) _ _ (λ _. refl)
     (λ _. each P (ltb (length p) (at + size)) _ _ (λ _. refl) (λ _. by (curveOf limit (Curve·tagOf p at size)) (curve-known limit (Curve·tagOf p at size)))))
   where
-    by : (x : Seen) → SeenKnown x → Curve·paper (Curve·resultFrom (answerOf walk 12 x)) ≡ answerOf walk 12 x
-    by (is empty) k = refl
-    by (is (table n)) k = refl
-    by (is (para type ps)) k = refl
-    by (no n) k = ap Curve·Answer.refused k
+    by : (x : Checked Shape) → SeenKnown x → Curve·inNumbers (Curve·resultFrom (answerOf walk 12 x)) ≡ answerOf walk 12 x
+    by (good empty) k = refl
+    by (good (table n)) k = refl
+    by (good (para type ps)) k = refl
+    by (bad n) k = ap Curve·Answer.refused k
 
 -- ---- lookup tables
 
@@ -139,22 +140,22 @@ Stands s = stateFrom (answerTo s) ≡ s
 abbrev StandsOf : Lut·Answer → Type 0
 StandsOf a = Stands (a .state)
 
-JudgedKnown : Judged → Type 0
-JudgedKnown good = Unit
+JudgedKnown : Checked Unit → Type 0
+JudgedKnown (good _) = Unit
 JudgedKnown (bad n) = Known n
 
-or-refused : (j : Judged) (a : Lut·Answer) → JudgedKnown j → StandsOf a → StandsOf (orRefused j a)
+or-refused : (j : Checked Unit) (a : Lut·Answer) → JudgedKnown j → StandsOf a → StandsOf (orRefused j a)
 unfolding JudgedKnown Stands
-or-refused good a k h = h
+or-refused (good _) a k h = h
 or-refused (bad n) a k h = ap State.refused k
 
-both : (i j : Judged) → JudgedKnown i → JudgedKnown j → JudgedKnown (andThen i j)
+both : (i j : Checked Unit) → JudgedKnown i → JudgedKnown j → JudgedKnown (andThen i j)
 unfolding JudgedKnown
-both good j a b = b
+both (good _) j a b = b
 both (bad n) j a b = a
 
-entry-known : (limit : ℕ) (t : List ℕ) (at : ℕ) → SeenKnown (entryAt limit t at)
-unfolding SeenKnown entryAt
+entry-known : (limit : ℕ) (t : List ℕ) (at : ℕ) → SeenKnown (curveAtOffset limit t at)
+unfolding SeenKnown curveAtOffset
 entry-known limit t at = each SeenKnown (ltb (length t) (at + 12)) _ _ (λ _. refl) (λ _. curve-known limit (drop at t))
 
 run-known : (walk : Walk) (limit : ℕ) (t : List ℕ) (n at : ℕ) → JudgedKnown (ended (runAt walk limit t at n .end))
@@ -162,14 +163,14 @@ unfolding JudgedKnown SeenKnown ended
 run-known walk limit t =
     run-induct walk limit t (λ at n r. JudgedKnown (ended (r .end))) (λ at. tt) (λ at n m e. subst SeenKnown e (entry-known limit t at)) (λ at n s e ih. ih)
 
-matrix-known : (t : List ℕ) → JudgedKnown (matrixJudged t)
-unfolding JudgedKnown matrixJudged
+matrix-known : (t : List ℕ) → JudgedKnown (matrixChecked t)
+unfolding JudgedKnown matrixChecked
 matrix-known t =
     each JudgedKnown (eqb (matrixOffset t) 0) _ _ (λ _. tt) (λ _. each JudgedKnown (ltb (length t) (matrixOffset t + 48)) _ _ (λ _. refl) (λ _. tt))
 
-ClutKnown : Clut·Seen → Type 0
-ClutKnown (Clut·is x) = Unit
-ClutKnown (Clut·no n) = Known n
+ClutKnown : Checked Table → Type 0
+ClutKnown (good x) = Unit
+ClutKnown (bad n) = Known n
 
 clut-known : (t : List ℕ) → ClutKnown (clutIn t)
 unfolding ClutKnown clutIn clutOf shapeOf
@@ -187,17 +188,17 @@ clut-known t =
     (λ _. each P (ltb (length t) (x .start + lengthOf x)) _ _ (λ _. refl) (λ _. tt)))))))))
 
 abm-stands : (walk : Walk) (limit : ℕ) (t : List ℕ) (words : ℕ) → StandsOf (abmOf walk limit t words)
-unfolding Stands abmOf ClutKnown judgedOf runsJudged recordedOf valueFrom
+unfolding Stands abmOf ClutKnown checkedOf runsChecked recordedOf valueFrom
 abm-stands walk limit t words =
     each StandsOf (ltb 4 (inputs t) && ltb 4 (outputs t)) _ _ (λ _. refl)
-    (λ _. or-refused (matrixJudged t) _ (matrix-known t) (by (clutIn t) (clut-known t)))
+    (λ _. or-refused (matrixChecked t) _ (matrix-known t) (by (clutIn t) (clut-known t)))
   where
-    by : (x : Clut·Seen) → ClutKnown x → StandsOf (withTable walk limit t words x)
-    by (Clut·is x) k =
-        or-refused (runsJudged walk limit t (planOf t)) _
+    by : (x : Checked Table) → ClutKnown x → StandsOf (withTable walk limit t words x)
+    by (good x) k =
+        or-refused (runsChecked walk limit t (planOf t)) _
         (both _ _ (run-known walk limit t _ _) (both _ _ (run-known walk limit t _ _) (run-known walk limit t _ _)))
         (each StandsOf (ltb (words / recordWords) (recordsNeeded t)) _ _ (λ _. refl) (λ _. refl))
-    by (Clut·no n) k = ap State.refused k
+    by (bad n) k = ap State.refused k
 
 mft-stands : (points : ℕ) (t : List ℕ) → Stands (mftState (Mft·answerOf t (mftOf points t) .state))
 unfolding Stands Mft·answerOf mftOf numbersOf tablesOf
@@ -219,16 +220,16 @@ lut-stands walk limit points p at size words =
     (λ _. each StandsOf (isMft t) _ _ (λ _. mft-stands points t)
     (λ _. each StandsOf (isAbm t) _ _ (λ _. abm-stands walk limit t words) (λ _. refl))))
 
-lut-shown : (a : Lut·Answer) → StandsOf a → Lut·paper (lutTo a) ≡ a
+lut-shown : (a : Lut·Answer) → StandsOf a → Lut·inNumbers (lutTo a) ≡ a
 unfolding Stands
 lut-shown a h = ap (λ (s : State). record { state = s; grid = a .grid; matrix = a .matrix; bias = a .bias }) h
 
 -- ---- text
 
-text-shown : (p : List ℕ) (at size words : ℕ) → Text·paper (Text·resultTo (stringOf p at size words)) ≡ stringOf p at size words
+text-shown : (p : List ℕ) (at size words : ℕ) → Text·inNumbers (Text·resultTo (stringOf p at size words)) ≡ stringOf p at size words
 unfolding stringOf Text·byType textOf mlucOf descOf slottedOf
 text-shown p at size words =
-    let P : Text·Answer → Type 0 = λ a. Text·paper (Text·resultTo a) ≡ a in
+    let P : Text·Answer → Type 0 = λ a. Text·inNumbers (Text·resultTo a) ≡ a in
     let t = Text·tagOf p at size in
     each P (ltb (countedSize size) 4) _ _ (λ _. refl)
     (λ _. each P (ltb (length p) (at + countedSize size)) _ _ (λ _. refl)
@@ -239,9 +240,9 @@ text-shown p at size words =
     (λ _. each P (ltb (length t) 12) _ _ (λ _. refl) (λ _. each P (ltb (length t) (asciiEnd t)) _ _ (λ _. refl) (λ _. refl)))
     (λ _. refl))))))
   where
-    by : (e : Mluc·End) (n : ℕ) → Text·paper (Text·resultTo (endedBy e (slottedOf n words))) ≡ endedBy e (slottedOf n words)
+    by : (e : Mluc·RecordsEnd) (n : ℕ) → Text·inNumbers (Text·resultTo (endedBy e (slottedOf n words))) ≡ endedBy e (slottedOf n words)
     by Mluc·whole n =
-        let P : Text·Answer → Type 0 = λ a. Text·paper (Text·resultTo a) ≡ a in
+        let P : Text·Answer → Type 0 = λ a. Text·inNumbers (Text·resultTo a) ≡ a in
         each P (ltb (words / textWords) n) _ _ (λ _. refl) (λ _. refl)
     by (Mluc·stopped header) n = refl
     by (Mluc·stopped string-fault) n = refl
@@ -255,9 +256,9 @@ shown (trc walk) c = trc-shown walk (c .entries) (c .profile) (c .entry) (c .siz
 shown string c = text-shown (c .profile) (c .entry) (c .size) (length (c .slots))
 shown (small s) c = small-shown s (c .profile) (c .entry) (c .size)
 
-told-back : (a : Told) → Table·paper (entryResult a) ≡ a
-told-back (Told.value n) = refl
-told-back Told.absent = refl
+told-back : (a : Answer) → Table·inNumbers (entryResult a) ≡ a
+told-back (Answer.value n) = refl
+told-back Answer.absent = refl
 
 pub keeps : Promised kept
 keeps =

@@ -13,11 +13,11 @@ use Rattle.curve_meaning.specs.declared.Walk.{Walk}
 use Rattle.curve_meaning.proofs.Conforms.{lone-read, lone-written}
 use Rattle.curve_meaning.proofs.Unique.{unique as curve-unique}
 use Rattle.lut_mft_meaning.specs.Answer.{Fields, toldTable as Mft·toldTable}
-use Rattle.lut_mft_meaning.specs.Standard.{told16, told8, Begins16, Begins8}
+use Rattle.lut_mft_meaning.specs.Standard.{fieldsTold16, fieldsTold8, Begins16, Begins8}
 use Rattle.lut_meaning.specs.Abm.{toldTable as Abm·toldTable}
 use Rattle.lut_meaning.specs.Answer.{mft, abm, Abm, State, Answer as Lut·Answer}
-use Rattle.lut_meaning.specs.Standard.{told, PartsAs, TagAs, PassesBy}
-use Rattle.lut_meaning.proofs.Conforms.{profile-read, profile-left, profile-parts, profile-written, profile-counts, profile-read16, profile-read8, profile-written-mft}
+use Rattle.lut_meaning.specs.Standard.{answerTold, PartsAs, TagAs, PassesBy}
+use Rattle.lut_meaning.proofs.Conforms.{profile-read, profile-slots, profile-parts, profile-written, profile-counts, profile-read16, profile-read8, profile-written-mft}
 use Rattle.lut_meaning.proofs.Unique.{unique as lut-unique}
 use Rattle.small_meaning.specs.Answer.{Answer as Small·Answer}
 use Rattle.small_meaning.specs.Standard.{signatureTold, someXyzType, firstTold, measurementTold, viewTold, cicpTold, WrittenRead, ReadWritten}
@@ -32,7 +32,7 @@ use Rattle.lut_view_meaning.proofs.Shows.{Shows as TableShows, abm-shows, mft-s
 use Rattle.text_meaning.specs.Standard.{ReadLocalized}
 use Rattle.text_meaning.proofs.Conforms as Text
 use Rattle.text_meaning.proofs.Unique.{unique as text-unique}
-use Rattle.demands.specs.Readers.{Small, chad, sig, date, meas, view, xyz, cicp, Reader, lut, trc, string, small, Call, SmallResult, smallNumbers, smallOf, Result, Numbers, numbers, meaning, Library, Promised, says}
+use Rattle.demands.specs.Readers.{Small, chad, sig, date, meas, view, xyz, cicp, Reader, lut, trc, string, small, Call, SmallResult, smallNumbers, smallOf, Result, Numbers, numbers, meaning, Library, Promised, answered}
 use Rattle.demands.specs.Demands.{tag, bytes, InProfile, reader, shown, Shows, Demand2}
 
 -- ---- one call, one answer: a result is determined by its numbers
@@ -54,23 +54,23 @@ unique (small s) = small-unique s
 
 module _ (l : Library) (p : Promised l) where
   -- what the meaning of lookup tables says, the library returns
-  lut-state : (walk : Walk) (c : Call) → says l (lut walk) c .state ≡ meaning (lut walk) c .state
+  lut-state : (walk : Walk) (c : Call) → answered l (lut walk) c .state ≡ meaning (lut walk) c .state
   lut-state walk c = ap (λ (a : Lut·Answer). a .state) (p .answers (lut walk) c)
 
   -- ---- lookup tables
 
-  module _ (walk : Walk) (c : Call) (b : Bytes (c .profile)) (f : Abm) (h : says l (lut walk) c .state ≡ abm f) (few : 1 ≤ f .size → f .inputs ≤ 16) where
-    abm-written : InProfile c × PartsAs (bytes c) (says l (lut walk) c)
+  module _ (walk : Walk) (c : Call) (b : Bytes (c .profile)) (f : Abm) (h : answered l (lut walk) c .state ≡ abm f) (few : 1 ≤ f .size → f .inputs ≤ 16) where
+    abm-written : InProfile c × PartsAs (bytes c) (answered l (lut walk) c)
     abm-written =
         let w = profile-parts (c .entries) (c .points) (c .profile) b (c .entry) (c .size) walk (length (c .slots)) f (sym (lut-state walk c) ∙ h) few in
         (w .0, subst (PartsAs (bytes c)) (sym (p .answers (lut walk) c)) (w .1))
 
-    curves-written : PassesBy walk (l .leaves (lut walk) c) (f .a) (f .m) (f .b) → TagAs walk (c .entries) (bytes c) (says l (lut walk) c) (c .slots) (l .leaves (lut walk) c)
+    curves-written : PassesBy walk (l .leaves (lut walk) c) (f .a) (f .m) (f .b) → TagAs walk (c .entries) (bytes c) (answered l (lut walk) c) (c .slots) (l .leaves (lut walk) c)
     curves-written pass =
         let w = profile-written (c .entries) (c .points) (c .profile) b (c .entry) (c .size) walk (length (c .slots)) f (sym (lut-state walk c) ∙ h) few (c .slots) (l .leaves (lut walk) c) refl (sym (p .leaves-so (lut walk) c)) pass in
         subst (λ (a : Lut·Answer). TagAs walk (c .entries) (bytes c) a (c .slots) (l .leaves (lut walk) c)) (sym (p .answers (lut walk) c)) (w .1)
 
-  mft-written : (walk : Walk) (c : Call) → Bytes (c .profile) → (f : Fields) → says l (lut walk) c .state ≡ mft f → let matrix : List ℕ = says l (lut walk) c .matrix in InProfile c × (Begins8 (c .points) (bytes c) f matrix ⊎ Begins16 (c .points) (bytes c) f matrix)
+  mft-written : (walk : Walk) (c : Call) → Bytes (c .profile) → (f : Fields) → answered l (lut walk) c .state ≡ mft f → let matrix : List ℕ = answered l (lut walk) c .matrix in InProfile c × (Begins8 (c .points) (bytes c) f matrix ⊎ Begins16 (c .points) (bytes c) f matrix)
   mft-written walk c b f h =
       let e = p .answers (lut walk) c in
       let w = profile-written-mft (c .entries) (c .points) (c .profile) b (c .entry) (c .size) walk (length (c .slots)) f (sym (lut-state walk c) ∙ h) in
@@ -82,12 +82,12 @@ module _ (l : Library) (p : Promised l) where
   shows t n table bytes h index channel valid =
       (p .reads-so t n index channel ∙ h .entry-is index channel (valid .0) (valid .1), h .entry-in-table index channel (valid .0) (valid .1))
 
-  abm-shown : (walk : Walk) (c : Call) (f : Abm) → c .size < 2 ^ 32 → says l (lut walk) c .state ≡ abm f → 1 ≤ f .size → Shows l (tag c) (numbersOf (abm f)) (Abm·toldTable (says l (lut walk) c .grid) f) (f .bytes)
+  abm-shown : (walk : Walk) (c : Call) (f : Abm) → c .size < 2 ^ 32 → answered l (lut walk) c .state ≡ abm f → 1 ≤ f .size → Shows l (tag c) (numbersOf (abm f)) (Abm·toldTable (answered l (lut walk) c .grid) f) (f .bytes)
   abm-shown walk c f low h sized =
       subst (λ (g : List ℕ). Shows l (tag c) (numbersOf (abm f)) (Abm·toldTable g f) (f .bytes)) (ap (λ (a : Lut·Answer). a .grid) (sym (p .answers (lut walk) c)))
       (shows _ _ _ _ (abm-shows walk (c .entries) (c .points) (c .profile) (c .entry) (c .size) (length (c .slots)) low f (sym (lut-state walk c) ∙ h) sized))
 
-  mft-shown : (walk : Walk) (c : Call) (f : Fields) → c .size < 2 ^ 32 → says l (lut walk) c .state ≡ mft f → Shows l (tag c) (numbersOf (mft f)) (Mft·toldTable f) (f .clutBytes)
+  mft-shown : (walk : Walk) (c : Call) (f : Fields) → c .size < 2 ^ 32 → answered l (lut walk) c .state ≡ mft f → Shows l (tag c) (numbersOf (mft f)) (Mft·toldTable f) (f .clutBytes)
   mft-shown walk c f low h =
       shows _ _ _ _ (mft-shows walk (c .entries) (c .points) (c .profile) (c .entry) (c .size) (length (c .slots)) low f (sym (lut-state walk c) ∙ h))
 
@@ -121,7 +121,7 @@ module _ (l : Library) (p : Promised l) where
         abm-read =
             λ walk c x i long f k room.
             let read = profile-read (c .entries) (c .points) (c .profile) (c .entry) (c .size) (length (c .slots)) i long walk (x .parts) f (x .curves) k room in
-            let leaves = profile-left (c .entries) (c .points) (c .profile) (c .entry) (c .size) (length (c .slots)) i long walk (x .parts) f (x .curves) k room (c .slots) refl in
+            let leaves = profile-slots (c .entries) (c .points) (c .profile) (c .entry) (c .size) (length (c .slots)) i long walk (x .parts) f (x .curves) k room (c .slots) refl in
             (p .answers (lut walk) c ∙ read, p .leaves-so (lut walk) c ∙ leaves);
         abm-written = abm-written;
         curves-written = curves-written;
@@ -135,7 +135,7 @@ module _ (l : Library) (p : Promised l) where
         desc-written = λ c b s u e. Text.desc-written (c .profile) b (c .entry) (c .size) (length (c .slots)) s u (sym (p .answers string c) ∙ e);
         mluc-read =
             λ c t h i room.
-            (p .answers string c ∙ Text.mluc-read (c .profile) (c .entry) (c .size) i (length (c .slots)) t h room, p .leaves-so string c ∙ Text.mluc-left (c .profile) (c .entry) (c .size) i (c .slots) t h room);
+            (p .answers string c ∙ Text.mluc-read (c .profile) (c .entry) (c .size) i (length (c .slots)) t h room, p .leaves-so string c ∙ Text.mluc-slots (c .profile) (c .entry) (c .size) i (c .slots) t h room);
         mluc-written =
             λ c b n e.
             subst (ReadLocalized (c .profile) (c .entry) (c .size) n (c .slots)) (sym (p .leaves-so string c)) (Text.mluc-written (c .profile) b (c .entry) (c .size) (c .slots) n (sym (p .answers string c) ∙ e));
@@ -155,8 +155,8 @@ module _ (l : Library) (p : Promised l) where
         cicp-written = small-written cicp cicpType cicpTold _ Small·Conforms.cicp-written;
         abm-shown = abm-shown;
         mft-shown = mft-shown;
-        abm-in-order = λ walk c x low long f e. shows-clut c (told x .state) (x .clut) (abm-colours walk (c .entries) (c .points) (c .profile) (c .entry) (c .size) (length (c .slots)) low long x f (sym (p .answers (lut walk) c) ∙ e));
-        wide-in-order = λ walk c reserved reserved2 n m x rest low long z fits e h. shows-colours c (mft (told16 n m x)) _ _ _ (wide-colours walk (c .entries) (c .points) (c .profile) (c .entry) (c .size) (length (c .slots)) low long reserved reserved2 n m x rest z fits e (sym (lut-state walk c) ∙ h));
-        narrow-in-order = λ walk c reserved reserved2 x rest low long z e h. shows-colours c (mft (told8 x)) _ _ _ (narrow-colours walk (c .entries) (c .points) (c .profile) (c .entry) (c .size) (length (c .slots)) low long reserved reserved2 x rest z e (sym (lut-state walk c) ∙ h));
+        abm-in-order = λ walk c x low long f e. shows-clut c (answerTold x .state) (x .clut) (abm-colours walk (c .entries) (c .points) (c .profile) (c .entry) (c .size) (length (c .slots)) low long x f (sym (p .answers (lut walk) c) ∙ e));
+        wide-in-order = λ walk c reserved reserved2 n m x rest low long z fits e h. shows-colours c (mft (fieldsTold16 n m x)) _ _ _ (wide-colours walk (c .entries) (c .points) (c .profile) (c .entry) (c .size) (length (c .slots)) low long reserved reserved2 n m x rest z fits e (sym (lut-state walk c) ∙ h));
+        narrow-in-order = λ walk c reserved reserved2 x rest low long z e h. shows-colours c (mft (fieldsTold8 x)) _ _ _ (narrow-colours walk (c .entries) (c .points) (c .profile) (c .entry) (c .size) (length (c .slots)) low long reserved reserved2 x rest z e (sym (lut-state walk c) ∙ h));
         not-shown = λ t n index channel h. p .reads-so t n index channel ∙ invalid-absent t (tableBy t n) index channel h;
       }

@@ -7,6 +7,7 @@ use mathlib.Core.Path.{_≡_, refl, ap, _∙_}
 use mathlib.Core.List.{List, [], _∷_, _++_}
 use mathlib.Core.Logic.{inl}
 use lib.ListN.{length, getD, drop, replicate}
+use Rattle.fields.proofs.Never.{never}
 use Rattle.icc.specs.Curves.{sampled, parametric, curveElement, curveType, parametricCurveType, type0, encoded, parameters, Defined}
 use Rattle.icc.specs.Elements.{Stands, aToB, Head, headElement, PlacedCurve, CurvesFrom, no-curves, some-curves, no-matrix, no-clut, LutParts, LutCurves}
 use Rattle.icc.specs.Numbers.{each16, each32, Each32}
@@ -14,19 +15,19 @@ use Rattle.icc.specs.Small.{eachXyz, xyzType}
 use Rattle.fields.specs.Tag.{signatureOf}
 use Rattle.curve_meaning.specs.Cases.{none, two}
 use Rattle.curve_meaning.specs.Shape.{Shape, empty, table, para, wordsOf}
-use Rattle.curve_meaning.specs.Standard.{Fits, toldOf, Tag}
+use Rattle.curve_meaning.specs.Standard.{Fits, recordTold, Tag}
 use Rattle.curve_meaning.specs.declared.Walk.the-variants.{Crate, Book}
-use Rattle.lut_run_meaning.specs.Run.{raised, Each}
+use Rattle.lut_run_meaning.specs.Run.{aligned, Each}
 use Rattle.lut_run_meaning.specs.Standard.{Passes, recordsTold}
 use Rattle.lut_meaning.specs.Answer.{State, mft, abm, absent as State·absent, refused as State·refused, stateFrom, Answer as Lut·Answer}
 use Rattle.lut_meaning.specs.Cases.{tag as threeCurves, slots}
 use Rattle.lut_meaning.specs.Layout.{present, deviceChannels, spaceChannels, aCurves, mCurves, bCurves, recordsNeeded}
-use Rattle.lut_meaning.specs.Standard.{MatrixTaken, ClutFits, told, recordsWritten, PartsTaken, CurvesTaken}
+use Rattle.lut_meaning.specs.Standard.{MatrixTaken, ClutFits, answerTold, recordsWritten, PartsTaken, CurvesTaken}
 use Rattle.lut_meaning.specs.declared.LutAnswer.{LutAnswer}
-use Rattle.lut_run_meaning.proofs.Conforms.{raised-next}
+use Rattle.lut_run_meaning.proofs.Conforms.{aligned-next}
 use Rattle.lut_meaning.proofs.Conforms.{written-records}
 use Rattle.small_meaning.specs.Standard.{SomeXyz}
-use Rattle.demands.specs.Readers.{lut, Call, Library, Promised, says}
+use Rattle.demands.specs.Readers.{lut, Call, Library, Promised, answered}
 use Rattle.demands.specs.Demands.{curveAt, Demand1, Demand2}
 use Rattle.demands.specs.Cases.{Holds, call, lone}
 use Rattle.demands.specs.Wrong.{refusesAll, alwaysDefault, alwaysIdentity, unwritten, copied, madeUp, tooEarly, zeroed, copies, oneCurve, ShutOut}
@@ -37,15 +38,13 @@ refuses-all : (l : Library) → Demand2 (refusesAll l) → ⊥
 unfolding Fits Tag curveElement curveType each16
 refuses-all l d =
     let e = d .curve-read Crate (lone none 12) (sampled 0 []) [] (omega arith, omega arith) (refl, omega arith) in
-    let z : _≡_ {A = ℕ} 0 1 = cc in
-    omega arith
+    never cc
 
 always-identity : (l : Library) → Demand2 (alwaysIdentity l) → ⊥
-unfolding Fits Tag curveElement curveType each16 toldOf
+unfolding Fits Tag curveElement curveType each16 recordTold
 always-identity l d =
     let e = d .curve-read Crate (lone two 16) (sampled 0 (0 ∷ 65535 ∷ [])) [] (omega arith, omega arith) (refl, omega arith) in
-    let z : _≡_ {A = ℕ} 0 1 = cc in
-    omega arith
+    never cc
 
 -- an `XYZ ` tag of zeros
 abbrev black : List ℕ
@@ -56,8 +55,7 @@ unfolding Each32 xyzType eachXyz
 always-default l d =
     let x : SomeXyz = record { first = record { X = 0; Y = 0; Z = 0 }; others = [] } in
     let e = d .xyz-read (lone [] 0) black 0 20 0 x [] (omega arith, (omega arith, (omega arith, tt))) (omega arith) refl in
-    let z : _≡_ {A = ℕ} 0 1 = cc in
-    omega arith
+    never cc
 
 -- ---- the `mAB ` tag of the worked cases, with its three curves
 
@@ -91,9 +89,9 @@ three =
     []
 
 stand : CurvesFrom threeCurves 32 three
-unfolding CurvesFrom raised curveElement curveType parametricCurveType encoded parameters each16 each32
+unfolding CurvesFrom aligned curveElement curveType parametricCurveType encoded parameters each16 each32
 stand =
-    (refl, record { behind = drop 44 threeCurves; is = refl }, (44, raised-next 44, (refl, record { behind = drop 56 threeCurves; is = refl }, (56, raised-next 56, (refl, record { behind = []; is = refl }, (72, raised-next 72, tt))))))
+    (refl, record { behind = drop 44 threeCurves; is = refl }, (44, aligned-next 44, (refl, record { behind = drop 56 threeCurves; is = refl }, (56, aligned-next 56, (refl, record { behind = []; is = refl }, (72, aligned-next 72, tt))))))
 
 abbrev curves : LutCurves threeCurves head
 curves =
@@ -130,7 +128,7 @@ abbrev Said : Library → Type 0
 Said l =
     let c : Call = call threeCurves 72 (slots 3) in
     let records : List ℕ = recordsWritten curves in
-    (says l (lut Book) c ≡ told parts) × (l .leaves (lut Book) c ≡ records ++ drop (length records) (c .slots))
+    (answered l (lut Book) c ≡ answerTold parts) × (l .leaves (lut Book) c ≡ records ++ drop (length records) (c .slots))
 
 three-said : (l : Library) → Demand2 l → Said l
 three-said l d =
@@ -138,14 +136,14 @@ three-said l d =
 
 -- the first word would be a 7 that was lent
 slots-unwritten : (l : Library) → Demand2 (unwritten l) → ⊥
-unfolding recordsTold toldOf
+unfolding recordsTold recordTold
 slots-unwritten l d =
     let e : _≡_ {A = ℕ} 7 0 = ap (λ (ws : List ℕ). getD ws 0 0) (three-said (unwritten l) d .1) in
     omega (arith, e)
 
 -- the second record would start where the first does
 first-copied : (l : Library) → Demand2 (copied l) → ⊥
-unfolding copies recordsNeeded present deviceChannels spaceChannels aCurves mCurves bCurves recordsTold toldOf signatureOf
+unfolding copies recordsNeeded present deviceChannels spaceChannels aCurves mCurves bCurves recordsTold recordTold signatureOf
 first-copied l d =
     let read = written-records threeCurves parts parts-taken Book 4096 curves curves-taken in
     let e : _≡_ {A = ℕ} 44 56 = ap (λ (ws : List ℕ). getD ws 11 0) (simp read at (three-said (copied l) d .1)) in
@@ -163,7 +161,7 @@ count-made-up l d =
     curvesIn State·absent = 0
     curvesIn (State·refused n) = 0
 
-    by : (a : LutAnswer) → stateFrom (oneCurve a) ≡ told parts .state → ⊥
+    by : (a : LutAnswer) → stateFrom (oneCurve a) ≡ answerTold parts .state → ⊥
     by (LutAnswer.Mft t) e = let z : _≡_ {A = ℕ} 0 3 = ap curvesIn e in omega (arith, z)
     by (LutAnswer.Abm t) e = let z : _≡_ {A = ℕ} 1 3 = ap curvesIn e in omega (arith, z)
     by LutAnswer.Absent e = let z : _≡_ {A = ℕ} 0 3 = ap curvesIn e in omega (arith, z)
@@ -171,7 +169,7 @@ count-made-up l d =
 
 -- with two slots the call is refused, and the first word would be that of a record
 written-too-early : (l : Library) → Promised l → Demand1 (tooEarly l) → ⊥
-unfolding recordsTold toldOf Each Holds
+unfolding recordsTold recordTold Each Holds
 written-too-early l p d =
     let c : Call = call threeCurves 72 (slots 2) in
     let refused-14 = ends-so l p (lut Book) c ∙ claim .1 .1 .1 .1 .1 .1 .1 .1 .1 .1 .1 .1 .1 .1 .0 .0 in

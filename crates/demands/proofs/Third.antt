@@ -10,6 +10,7 @@ use lib.Dec.{ltb}
 use lib.ListN.{length, drop, length-append}
 use lib.Seq.{drop-append-le}
 use borrow.Author.Tests.{ltb-true, ltb-false}
+use Rattle.fields.proofs.Never.{never}
 use Rattle.fields.proofs.Grow.{Grows}
 use Rattle.curve_meaning.specs.Answer.{Answer as Curve·Answer}
 use Rattle.curve_meaning.specs.Curve.{trcOf}
@@ -24,16 +25,16 @@ use Rattle.lut_meaning.proofs.More.{Is as Lut·Is, more-bytes as lut-bytes, mor
 use Rattle.small_meaning.specs.Answer.{Answer as Small·Answer}
 use Rattle.small_meaning.proofs.Last.{chad-not-14, sig-not-14, date-not-14, meas-not-14, view-not-14, xyz-not-14, cicp-not-14}
 use Rattle.small_meaning.proofs.More.{Past, chad-more, sig-more, date-more, meas-more, view-more, xyz-more, cicp-more}
-use Rattle.text_meaning.specs.Answer.{Answer as Text·Answer, leftBy as Text·leftBy}
+use Rattle.text_meaning.specs.Answer.{Answer as Text·Answer, slotsWith as Text·slotsWith}
 use Rattle.text_meaning.specs.Mluc.{recordsIn, wordsIn}
 use Rattle.text_meaning.proofs.Found.{Value, found}
 use Rattle.text_meaning.proofs.Last.{fourteen-behind as text-fourteen, enough as text-enough}
 use Rattle.text_meaning.proofs.More.{more-bytes as text-bytes, more-slots as text-slots, value-stays as text-stays}
 use Rattle.text_meaning.proofs.Shared.{words-length}
 use Rattle.text_meaning.proofs.Taken.{Taken, mluc-room, accepted}
-use Rattle.demands.specs.Readers.{Small, chad, sig, date, meas, view, xyz, cicp, Reader, lut, trc, string, small, Call, smallOf, meaning, left, Outcome, value, default, absent, refused, outcome, lutOutcome, curveOutcome, smallOutcome, textOutcome, Library, ends, Promised}
-use Rattle.demands.specs.Demands.{tag, appended, raised, lent, Same, ByBytes, ByLimits, BySlots, wordsAsked, Demand3, given}
-use Rattle.demands.proofs.Ends.{Spares, left-spared, ends-so}
+use Rattle.demands.specs.Readers.{Small, chad, sig, date, meas, view, xyz, cicp, Reader, lut, trc, string, small, Call, smallOf, meaning, slotsAfter, Outcome, value, default, absent, refused, outcome, lutOutcome, curveOutcome, smallOutcome, textOutcome, Library, ends, Promised}
+use Rattle.demands.specs.Demands.{tag, withBytes, withLimits, withSlots, Same, ByBytes, ByLimits, BySlots, wordsAsked, Demand3, withAll}
+use Rattle.demands.proofs.Ends.{Spares, slots-spared, ends-so}
 use Rattle.demands.proofs.Second.{unique}
 
 -- ---- the meanings: what is said stays, or is of the kind that may change
@@ -47,7 +48,7 @@ small-grows view = view-more
 small-grows xyz = xyz-more
 small-grows cicp = cicp-more
 
-by-bytes : (r : Reader) (c : Call) (q : List ℕ) → ByBytes r c (outcome r (meaning r c)) ⊎ (meaning r (appended q c) ≡ meaning r c)
+by-bytes : (r : Reader) (c : Call) (q : List ℕ) → ByBytes r c (outcome r (meaning r c)) ⊎ (meaning r (withBytes q c) ≡ meaning r c)
 by-bytes (lut walk) c q = elim (lut-bytes walk (c .entries) (c .points) (c .profile) q (c .entry) (c .size) (length (c .slots))) [
   | inl e ↦ inl (inl (ap lutOutcome e))
   | inr e ↦ inr e
@@ -75,7 +76,7 @@ by-limit Loose answer low high h (inl e) = by (ltb low high) refl
     by true l = inl (ltb-true low high l, e)
     by false l = let same : high ≡ low = omega (arith, ltb-false low high l) in inr (ap answer same)
 
-by-limits : (r : Reader) (c : Call) (entries points : ℕ) → c .entries ≤ entries → c .points ≤ points → ByLimits c entries points (outcome r (meaning r c)) ⊎ (meaning r (raised entries points c) ≡ meaning r c)
+by-limits : (r : Reader) (c : Call) (entries points : ℕ) → c .entries ≤ entries → c .points ≤ points → ByLimits c entries points (outcome r (meaning r c)) ⊎ (meaning r (withLimits entries points c) ≡ meaning r c)
 by-limits (lut walk) c entries points h k = elim (by-limit (Lut·Is 10) (λ n. lutOf walk n (c .points) (c .profile) (c .entry) (c .size) (length (c .slots))) (c .entries) entries h (lut-limit walk (c .entries) entries h (c .points) (c .profile) (c .entry) (c .size) (length (c .slots)))) [
   | inl e ↦ inl (inl (e .0, ap lutOutcome (e .1)))
   | inr e ↦ elim (by-limit (Lut·Is 16) (λ n. lutOf walk entries n (c .profile) (c .entry) (c .size) (length (c .slots))) (c .points) points k (lut-points walk entries (c .points) points k (c .profile) (c .entry) (c .size) (length (c .slots)))) [
@@ -93,7 +94,7 @@ by-limits (small s) c entries points h k = inr refl
 more-room : (s x : List ℕ) → length s ≤ length (s ++ x)
 more-room s x = simp length-append (omega arith)
 
-by-slots : (r : Reader) (c : Call) (x : List ℕ) → BySlots (outcome r (meaning r c)) ⊎ (meaning r (lent x c) ≡ meaning r c)
+by-slots : (r : Reader) (c : Call) (x : List ℕ) → BySlots (outcome r (meaning r c)) ⊎ (meaning r (withSlots x c) ≡ meaning r c)
 by-slots (lut walk) c x = elim (lut-slots walk (c .entries) (c .points) (length (c .slots)) (length (c .slots ++ x)) (more-room (c .slots) x) (c .profile) (c .entry) (c .size)) [
   | inl e ↦ inl (ap lutOutcome e)
   | inr e ↦ inr e
@@ -115,20 +116,20 @@ lut-valued State·absent v = absurd v
 lut-valued (State·refused n) v = absurd v
 
 lut-refused : (s : State) (n : ℕ) → lutOutcome s ≡ refused n → s ≡ State·refused n
-lut-refused (mft f) n e = let z : _≡_ {A = ℕ} 0 1 = cc in absurd (omega arith)
-lut-refused (abm f) n e = let z : _≡_ {A = ℕ} 0 1 = cc in absurd (omega arith)
-lut-refused State·absent n e = let z : _≡_ {A = ℕ} 0 1 = cc in absurd (omega arith)
+lut-refused (mft f) n e = never cc
+lut-refused (abm f) n e = never cc
+lut-refused State·absent n e = never cc
 lut-refused (State·refused m) n e = let same : m ≡ n = cc in ap State·refused same
 
 curve-refused : (a : Curve·Answer) (n : ℕ) → curveOutcome a ≡ refused n → a ≡ Curve·Answer.refused n
-curve-refused (Curve·Answer.value ws k) n e = let z : _≡_ {A = ℕ} 0 1 = cc in absurd (omega arith)
-curve-refused Curve·Answer.absent n e = let z : _≡_ {A = ℕ} 0 1 = cc in absurd (omega arith)
+curve-refused (Curve·Answer.value ws k) n e = never cc
+curve-refused Curve·Answer.absent n e = never cc
 curve-refused (Curve·Answer.refused m) n e = let same : m ≡ n = cc in ap Curve·Answer.refused same
 
 small-refused : (a : Small·Answer) (n : ℕ) → smallOutcome a ≡ refused n → a ≡ Small·Answer.refused n
-small-refused (Small·Answer.value ws) n e = let z : _≡_ {A = ℕ} 0 1 = cc in absurd (omega arith)
-small-refused Small·Answer.default n e = let z : _≡_ {A = ℕ} 0 1 = cc in absurd (omega arith)
-small-refused Small·Answer.absent n e = let z : _≡_ {A = ℕ} 0 1 = cc in absurd (omega arith)
+small-refused (Small·Answer.value ws) n e = never cc
+small-refused Small·Answer.default n e = never cc
+small-refused Small·Answer.absent n e = never cc
 small-refused (Small·Answer.refused m) n e = let same : m ≡ n = cc in ap Small·Answer.refused same
 
 small-not-14 : (s : Small) (p : List ℕ) (entry size : ℕ) → smallOf s p entry size ≡ Small·Answer.refused 14 → ⊥
@@ -141,15 +142,15 @@ small-not-14 xyz = xyz-not-14
 small-not-14 cicp = cicp-not-14
 
 text-refused : (a : Text·Answer) (n : ℕ) → textOutcome a ≡ refused n → a ≡ Text·Answer.refused n
-text-refused (Text·Answer.text s) n e = let z : _≡_ {A = ℕ} 0 1 = cc in absurd (omega arith)
-text-refused (Text·Answer.desc s u) n e = let z : _≡_ {A = ℕ} 0 1 = cc in absurd (omega arith)
-text-refused (Text·Answer.mluc k) n e = let z : _≡_ {A = ℕ} 0 1 = cc in absurd (omega arith)
-text-refused Text·Answer.absent n e = let z : _≡_ {A = ℕ} 0 1 = cc in absurd (omega arith)
+text-refused (Text·Answer.text s) n e = never cc
+text-refused (Text·Answer.desc s u) n e = never cc
+text-refused (Text·Answer.mluc k) n e = never cc
+text-refused Text·Answer.absent n e = never cc
 text-refused (Text·Answer.refused m) n e = let same : m ≡ n = cc in ap Text·Answer.refused same
 
 record Fourteen (r : Reader) (c : Call) : Type 0 where
   short : length (c .slots) < wordsAsked r c
-  last : (x : List ℕ) → wordsAsked r c ≤ length (c .slots ++ x) → outcome r (meaning r (lent x c)) ≡ value
+  last : (x : List ℕ) → wordsAsked r c ≤ length (c .slots ++ x) → outcome r (meaning r (withSlots x c)) ≡ value
 
 fourteen : (r : Reader) (c : Call) → outcome r (meaning r c) ≡ refused 14 → Fourteen r c
 fourteen (lut walk) c h =
@@ -170,30 +171,30 @@ fourteen (small s) c h = absurd (small-not-14 s (c .profile) (c .entry) (c .size
 -- ---- the slots
 
 -- of a value every word is left as before, and those lent besides stay
-lut-left : (walk : Walk) (c : Call) (q : List ℕ) (entries points : ℕ) (x : List ℕ) → c .entries ≤ entries → c .points ≤ points → outcome (lut walk) (meaning (lut walk) c) ≡ value → left (lut walk) (given q entries points x c) ≡ left (lut walk) c ++ x
+lut-slots : (walk : Walk) (c : Call) (q : List ℕ) (entries points : ℕ) (x : List ℕ) → c .entries ≤ entries → c .points ≤ points → outcome (lut walk) (meaning (lut walk) c) ≡ value → slotsAfter (lut walk) (withAll q entries points x c) ≡ slotsAfter (lut walk) c ++ x
 unfolding IsValue
-lut-left walk c q entries points x h k v =
+lut-slots walk c q entries points x h k v =
     lut-stays walk (c .entries) entries h (c .points) points k (c .profile) q (c .entry) (c .size) (c .slots) x (by (meaning (lut walk) c .state) v) .slots-stay
   where
     by : (s : State) → lutOutcome s ≡ value → IsValue s
     by (mft f) e = tt
     by (abm f) e = tt
-    by State·absent e = let z : _≡_ {A = ℕ} 0 1 = cc in absurd (omega arith)
-    by (State·refused n) e = let z : _≡_ {A = ℕ} 0 1 = cc in absurd (omega arith)
+    by State·absent e = never cc
+    by (State·refused n) e = never cc
 
 is-value : (a : Text·Answer) → textOutcome a ≡ value → Value a
 is-value (Text·Answer.text s) e = tt
 is-value (Text·Answer.desc s u) e = tt
 is-value (Text·Answer.mluc n) e = tt
-is-value Text·Answer.absent e = let z : _≡_ {A = ℕ} 0 1 = cc in absurd (omega arith)
-is-value (Text·Answer.refused n) e = let z : _≡_ {A = ℕ} 0 1 = cc in absurd (omega arith)
+is-value Text·Answer.absent e = never cc
+is-value (Text·Answer.refused n) e = never cc
 
-text-left : (c : Call) (q x : List ℕ) → outcome string (meaning string c) ≡ value → left string (lent x (appended q c)) ≡ left string c ++ x
-text-left c q x v =
+text-slots : (c : Call) (q x : List ℕ) → outcome string (meaning string c) ≡ value → slotsAfter string (withSlots x (withBytes q c)) ≡ slotsAfter string c ++ x
+text-slots c q x v =
     let h = text-stays (c .profile) q (c .entry) (c .size) (length (c .slots)) (length (c .slots ++ x)) (more-room (c .slots) x) (is-value (meaning string c) v) in
     rw (h .answer-stays, h .records-stay) (by (meaning string c) refl)
   where
-    by : (a : Text·Answer) → meaning string c ≡ a → let ws : List ℕ = wordsIn (recordsIn (tag c) .records) in Text·leftBy a ws (c .slots ++ x) ≡ Text·leftBy a ws (c .slots) ++ x
+    by : (a : Text·Answer) → meaning string c ≡ a → let ws : List ℕ = wordsIn (recordsIn (tag c) .records) in Text·slotsWith a ws (c .slots ++ x) ≡ Text·slotsWith a ws (c .slots) ++ x
     by (Text·Answer.text s) e = refl
     by (Text·Answer.desc s u) e = refl
     by (Text·Answer.mluc n) e =
@@ -204,22 +205,22 @@ text-left c q x v =
     by Text·Answer.absent e = refl
     by (Text·Answer.refused n) e = refl
 
-left-grows : (r : Reader) (c : Call) (q : List ℕ) (entries points : ℕ) (x : List ℕ) → c .entries ≤ entries → c .points ≤ points → outcome r (meaning r c) ≡ value → left r (given q entries points x c) ≡ left r c ++ x
-left-grows (lut walk) c q entries points x h k v = lut-left walk c q entries points x h k v
-left-grows (trc walk) c q entries points x h k v = refl
-left-grows string c q entries points x h k v = text-left c q x v
-left-grows (small s) c q entries points x h k v = refl
+slots-grow : (r : Reader) (c : Call) (q : List ℕ) (entries points : ℕ) (x : List ℕ) → c .entries ≤ entries → c .points ≤ points → outcome r (meaning r c) ≡ value → slotsAfter r (withAll q entries points x c) ≡ slotsAfter r c ++ x
+slots-grow (lut walk) c q entries points x h k v = lut-slots walk c q entries points x h k v
+slots-grow (trc walk) c q entries points x h k v = refl
+slots-grow string c q entries points x h k v = text-slots c q x v
+slots-grow (small s) c q entries points x h k v = refl
 
 -- where the same is said, the slots are left the same: a value's as above, and all others as they were lent
-left-stays : (r : Reader) (c : Call) (q : List ℕ) (entries points : ℕ) (x : List ℕ) → c .entries ≤ entries → c .points ≤ points → meaning r (given q entries points x c) ≡ meaning r c → left r (given q entries points x c) ≡ left r c ++ x
+left-stays : (r : Reader) (c : Call) (q : List ℕ) (entries points : ℕ) (x : List ℕ) → c .entries ≤ entries → c .points ≤ points → meaning r (withAll q entries points x c) ≡ meaning r c → slotsAfter r (withAll q entries points x c) ≡ slotsAfter r c ++ x
 left-stays r c q entries points x h k e = by (outcome r (meaning r c)) refl
   where
-    spared : Spares (outcome r (meaning r c)) → left r (given q entries points x c) ≡ left r c ++ x
+    spared : Spares (outcome r (meaning r c)) → slotsAfter r (withAll q entries points x c) ≡ slotsAfter r c ++ x
     spared s =
-        left-spared r (given q entries points x c) (subst Spares (ap (outcome r) (sym e)) s) ∙ ap (λ (w : List ℕ). w ++ x) (sym (left-spared r c s))
+        slots-spared r (withAll q entries points x c) (subst Spares (ap (outcome r) (sym e)) s) ∙ ap (λ (w : List ℕ). w ++ x) (sym (slots-spared r c s))
 
-    by : (o : Outcome) → outcome r (meaning r c) ≡ o → left r (given q entries points x c) ≡ left r c ++ x
-    by value f = left-grows r c q entries points x h k f
+    by : (o : Outcome) → outcome r (meaning r c) ≡ o → slotsAfter r (withAll q entries points x c) ≡ slotsAfter r c ++ x
+    by value f = slots-grow r c q entries points x h k f
     by default f = spared (subst Spares (sym f) tt)
     by absent f = spared (subst Spares (sym f) tt)
     by (refused n) f = spared (subst Spares (sym f) tt)
@@ -235,7 +236,7 @@ fixed r c entries points o a b (inr (inl (inr e))) = b _ (e .1)
 fixed r c entries points o a b (inr (inr e)) = b _ e
 
 module _ (l : Library) (p : Promised l) where
-  same : (r : Reader) (c d : Call) (x : List ℕ) → meaning r d ≡ meaning r c → left r d ≡ left r c ++ x → Same l r c d x
+  same : (r : Reader) (c d : Call) (x : List ℕ) → meaning r d ≡ meaning r c → slotsAfter r d ≡ slotsAfter r c ++ x → Same l r c d x
   same r c d x e f =
       record {
         result = unique r (meaning r c) (l .returns r d) (l .returns r c) (p .answers r d ∙ e) (p .answers r c);
@@ -243,41 +244,41 @@ module _ (l : Library) (p : Promised l) where
       }
 
   -- a call that is given all three is one that is given some, if the others are none
-  alone : (r : Reader) (c d : Call) (q : List ℕ) (entries points : ℕ) (x : List ℕ) → c .entries ≤ entries → c .points ≤ points → given q entries points x c ≡ d → meaning r d ≡ meaning r c → Same l r c d x
-  alone r c d q entries points x h k e f = same r c d x f (sym (ap (left r) e) ∙ left-stays r c q entries points x h k (ap (meaning r) e ∙ f))
+  alone : (r : Reader) (c d : Call) (q : List ℕ) (entries points : ℕ) (x : List ℕ) → c .entries ≤ entries → c .points ≤ points → withAll q entries points x c ≡ d → meaning r d ≡ meaning r c → Same l r c d x
+  alone r c d q entries points x h k e f = same r c d x f (sym (ap (slotsAfter r) e) ∙ left-stays r c q entries points x h k (ap (meaning r) e ∙ f))
 
-  bytes : (r : Reader) (c : Call) (q : List ℕ) → ByBytes r c (ends l r c) ⊎ Same l r c (appended q c) []
+  bytes : (r : Reader) (c : Call) (q : List ℕ) → ByBytes r c (ends l r c) ⊎ Same l r c (withBytes q c) []
   bytes r c q = elim (by-bytes r c q) [
     | inl e ↦ inl (subst (ByBytes r c) (sym (ends-so l p r c)) e)
-    | inr e ↦ inr (alone r c (appended q c) q (c .entries) (c .points) [] (omega arith) (omega arith) (λ i. record { profile = c .profile ++ q; entry = c .entry; size = c .size; entries = c .entries; points = c .points; slots = append-nil (c .slots) i }) e)
+    | inr e ↦ inr (alone r c (withBytes q c) q (c .entries) (c .points) [] (omega arith) (omega arith) (λ i. record { profile = c .profile ++ q; entry = c .entry; size = c .size; entries = c .entries; points = c .points; slots = append-nil (c .slots) i }) e)
   ]
 
-  limits : (r : Reader) (c : Call) (entries points : ℕ) → c .entries ≤ entries → c .points ≤ points → ByLimits c entries points (ends l r c) ⊎ Same l r c (raised entries points c) []
+  limits : (r : Reader) (c : Call) (entries points : ℕ) → c .entries ≤ entries → c .points ≤ points → ByLimits c entries points (ends l r c) ⊎ Same l r c (withLimits entries points c) []
   limits r c entries points h k = elim (by-limits r c entries points h k) [
     | inl e ↦ inl (subst (ByLimits c entries points) (sym (ends-so l p r c)) e)
-    | inr e ↦ inr (alone r c (raised entries points c) [] entries points [] h k (λ i. record { profile = append-nil (c .profile) i; entry = c .entry; size = c .size; entries = entries; points = points; slots = append-nil (c .slots) i }) e)
+    | inr e ↦ inr (alone r c (withLimits entries points c) [] entries points [] h k (λ i. record { profile = append-nil (c .profile) i; entry = c .entry; size = c .size; entries = entries; points = points; slots = append-nil (c .slots) i }) e)
   ]
 
-  slots : (r : Reader) (c : Call) (x : List ℕ) → BySlots (ends l r c) ⊎ Same l r c (lent x c) x
+  slots : (r : Reader) (c : Call) (x : List ℕ) → BySlots (ends l r c) ⊎ Same l r c (withSlots x c) x
   slots r c x = elim (by-slots r c x) [
     | inl e ↦ inl (subst BySlots (sym (ends-so l p r c)) e)
-    | inr e ↦ inr (alone r c (lent x c) [] (c .entries) (c .points) x (omega arith) (omega arith) (λ i. record { profile = append-nil (c .profile) i; entry = c .entry; size = c .size; entries = c .entries; points = c .points; slots = c .slots ++ x }) e)
+    | inr e ↦ inr (alone r c (withSlots x c) [] (c .entries) (c .points) x (omega arith) (omega arith) (λ i. record { profile = append-nil (c .profile) i; entry = c .entry; size = c .size; entries = c .entries; points = c .points; slots = c .slots ++ x }) e)
   ]
 
   fourteen-short : (r : Reader) (c : Call) → ends l r c ≡ refused 14 → length (c .slots) < wordsAsked r c
   fourteen-short r c h = fourteen r c (sym (ends-so l p r c) ∙ h) .short
 
-  fourteen-last : (r : Reader) (c : Call) (x : List ℕ) → ends l r c ≡ refused 14 → wordsAsked r c ≤ length (c .slots ++ x) → ends l r (lent x c) ≡ value
-  fourteen-last r c x h room = ends-so l p r (lent x c) ∙ fourteen r c (sym (ends-so l p r c) ∙ h) .last x room
+  fourteen-last : (r : Reader) (c : Call) (x : List ℕ) → ends l r c ≡ refused 14 → wordsAsked r c ≤ length (c .slots ++ x) → ends l r (withSlots x c) ≡ value
+  fourteen-last r c x h room = ends-so l p r (withSlots x c) ∙ fourteen r c (sym (ends-so l p r c) ∙ h) .last x room
 
-  all : (r : Reader) (c : Call) (q : List ℕ) (entries points : ℕ) (x : List ℕ) → c .entries ≤ entries → c .points ≤ points → (ByBytes r c (ends l r c) ⊎ ByLimits c entries points (ends l r c) ⊎ BySlots (ends l r c)) ⊎ Same l r c (given q entries points x c) x
+  all : (r : Reader) (c : Call) (q : List ℕ) (entries points : ℕ) (x : List ℕ) → c .entries ≤ entries → c .points ≤ points → (ByBytes r c (ends l r c) ⊎ ByLimits c entries points (ends l r c) ⊎ BySlots (ends l r c)) ⊎ Same l r c (withAll q entries points x c) x
   all r c q entries points x h k =
       let said = sym (ends-so l p r c) in
       elim (by-bytes r c q) [
         | inl e ↦ inl (inl (subst (ByBytes r c) said e))
-        | inr e ↦ elim (by-limits r (appended q c) entries points h k) [
+        | inr e ↦ elim (by-limits r (withBytes q c) entries points h k) [
           | inl f ↦ inl (inr (inl (subst (ByLimits c entries points) (ap (outcome r) e ∙ said) f)))
-          | inr f ↦ elim (by-slots r (raised entries points (appended q c)) x) [
+          | inr f ↦ elim (by-slots r (withLimits entries points (withBytes q c)) x) [
             | inl g ↦ inl (inr (inr (subst BySlots (ap (outcome r) (f ∙ e) ∙ said) g)))
             | inr g ↦ inr (alone r c _ q entries points x h k refl (g ∙ f ∙ e))
           ]
@@ -285,7 +286,7 @@ module _ (l : Library) (p : Promised l) where
       ]
 
   -- what is not of the kind that may change stays
-  stays : (r : Reader) (c : Call) (q : List ℕ) (entries points : ℕ) (x : List ℕ) → c .entries ≤ entries → c .points ≤ points → (ends l r c ≡ absent → ⊥) → ((n : ℕ) → ends l r c ≡ refused n → ⊥) → Same l r c (given q entries points x c) x
+  stays : (r : Reader) (c : Call) (q : List ℕ) (entries points : ℕ) (x : List ℕ) → c .entries ≤ entries → c .points ≤ points → (ends l r c ≡ absent → ⊥) → ((n : ℕ) → ends l r c ≡ refused n → ⊥) → Same l r c (withAll q entries points x c) x
   stays r c q entries points x h k a b = elim (all r c q entries points x h k) [
     | inl e ↦ absurd (fixed r c entries points (ends l r c) a b e)
     | inr s ↦ s
@@ -300,6 +301,6 @@ module _ (l : Library) (p : Promised l) where
         fourteen-short = fourteen-short;
         fourteen-last = fourteen-last;
         all = all;
-        value-stays = λ r c q entries points x h k e. stays r c q entries points x h k (λ f. let z : _≡_ {A = ℕ} 0 1 = cc in absurd (omega arith)) (λ n f. let z : _≡_ {A = ℕ} 0 1 = cc in absurd (omega arith));
-        default-stays = λ r c q entries points x h k e. stays r c q entries points x h k (λ f. let z : _≡_ {A = ℕ} 0 1 = cc in absurd (omega arith)) (λ n f. let z : _≡_ {A = ℕ} 0 1 = cc in absurd (omega arith));
+        value-stays = λ r c q entries points x h k e. stays r c q entries points x h k (λ f. never cc) (λ n f. never cc);
+        default-stays = λ r c q entries points x h k e. stays r c q entries points x h k (λ f. never cc) (λ n f. never cc);
       }

@@ -14,7 +14,7 @@ use Rattle.curve_meaning.specs.declared.Walk.the-variants.{Crate, Book}
 use Rattle.lut_meaning.specs.Cases.{tag as threeCurves, threeB, plain, slots, emptyAt, straightAt}
 use Rattle.text_meaning.specs.Answer.{mluc}
 use Rattle.text_meaning.specs.Cases.{five, slots as textSlots, recordOf}
-use Rattle.demands.specs.Readers.{Reader, lut, trc, string, Call, Numbers, meaning, left, outcome, refused}
+use Rattle.demands.specs.Readers.{Reader, lut, trc, string, Call, Numbers, meaning, slotsAfter, outcome, refused}
 
 pub data Case : Type 0 where
   -- a reader and a call, and the numbers of the answer
@@ -30,8 +30,8 @@ pub data Case : Type 0 where
 
 unfoldable pub Holds : Case → Type 0
 Holds (answers r c a) = meaning r c ≡ a
-Holds (leaves r c words) = left r c ≡ words
-Holds (refuses r c n) = (outcome r (meaning r c) ≡ refused n) × (left r c ≡ c .slots)
+Holds (leaves r c words) = slotsAfter r c ≡ words
+Holds (refuses r c n) = (outcome r (meaning r c) ≡ refused n) × (slotsAfter r c ≡ c .slots)
 Holds (means c zs) = signedParameters (trcOf Crate (c .entries) (c .profile) 0 (c .size)) ≡ zs
 Holds (counts t inputs outputs ns) = numbersIn (clutOf t 0 inputs outputs) ≡ ns
 

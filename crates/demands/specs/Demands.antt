@@ -17,30 +17,30 @@ use Rattle.fields.specs.Bytes.{u16At, u32At, wordsAt}
 use Rattle.fields.specs.Place.{tagAt, countedSize}
 use Rattle.fields.specs.Tag.{signatureOf}
 use Rattle.fields.specs.declared.Kind.the-variants.{Mab, Mba, Mft1, Mft2}
-use Rattle.lut_clut_meaning.specs.Table.{Table, inGrid, numberOf}
+use Rattle.lut_clut_meaning.specs.Table.{Table, inGrid, entryNumber}
 use Rattle.curve_meaning.specs.Answer.{Answer as Curve·Answer}
 use Rattle.curve_meaning.specs.Curve.{tagOf as Curve·tagOf}
 use Rattle.curve_meaning.specs.Shape.{empty, wordsOf, recordWords}
-use Rattle.curve_meaning.specs.Standard.{Fits, toldOf, stepTold, Tag, Lone}
+use Rattle.curve_meaning.specs.Standard.{Fits, recordTold, stepTold, Tag, Lone}
 use Rattle.curve_meaning.specs.declared.Walk.{Walk}
-use Rattle.lut_run_meaning.specs.Run.{Placed, placed, Stands, dataEnd}
+use Rattle.lut_run_meaning.specs.Run.{Placed, placed, CurveStands, dataEnd}
 use Rattle.lut_mft_meaning.specs.Answer.{Fields, toldTable as Mft·toldTable}
-use Rattle.lut_mft_meaning.specs.Standard.{told16, told8, Taken as MftTaken, Begins16, Begins8}
+use Rattle.lut_mft_meaning.specs.Standard.{fieldsTold16, fieldsTold8, Taken as MftTaken, Begins16, Begins8}
 use Rattle.lut_meaning.specs.Abm.{toldTable as Abm·toldTable}
 use Rattle.lut_meaning.specs.Answer.{mft, abm, Abm, State, Answer as Lut·Answer}
 use Rattle.lut_meaning.specs.Layout.{planOf, recordsNeeded}
 use Rattle.lut_meaning.specs.Parts.{curvesOf}
-use Rattle.lut_meaning.specs.Standard.{Counts, told, recordsWritten, PartsTaken, CurvesTaken, PartsAs, TagAs, PassesBy}
+use Rattle.lut_meaning.specs.Standard.{Counts, answerTold, recordsWritten, PartsTaken, CurvesTaken, PartsAs, TagAs, PassesBy}
 use Rattle.text_meaning.specs.Answer.{Answer as Text·Answer, Span, span, Unicode}
 use Rattle.text_meaning.specs.Mluc.{recordsAsked, recordWords as textWords}
-use Rattle.text_meaning.specs.Standard.{BeginsText, descriptionTold, BeginsDescription, Asked as MlucAsked, recordsTold, ReadLocalized}
+use Rattle.text_meaning.specs.Standard.{BeginsText, descriptionTold, BeginsDescription, Asked as MlucAsked, localizedTold, ReadLocalized}
 use Rattle.small_meaning.specs.Answer.{Answer as Small·Answer}
 use Rattle.small_meaning.specs.Standard.{signatureTold, someXyzType, firstTold, measurementTold, viewTold, cicpTold, WrittenRead, ReadWritten, BeginsNine, BeginsDate}
-use Rattle.lut_view_meaning.specs.Answer.{Told, paper as Table·paper}
+use Rattle.lut_view_meaning.specs.Answer.{Answer, inNumbers as Table·inNumbers}
 use Rattle.lut_view_meaning.specs.Standard.{ShowsColours, ShowsClut}
 use Rattle.lut_view_meaning.specs.View.{numbersOf, tableBy, storedAt}
 use Rattle.lut_view_meaning.specs.declared.TableNumbers.{TableNumbers}
-use Rattle.demands.specs.Readers.{Small, chad, sig, date, meas, view, xyz, cicp, Reader, lut, trc, string, small, Call, Result, numbers, meaning, Outcome, value, default, absent, refused, Library, ends, Promised, says}
+use Rattle.demands.specs.Readers.{Small, chad, sig, date, meas, view, xyz, cicp, Reader, lut, trc, string, small, Call, Result, numbers, meaning, Outcome, value, default, absent, refused, Library, ends, Promised, answered}
 
 -- the bytes of the tag, in lookup tables and text, and of a lone curve
 abbrev pub tag : Call → List ℕ
@@ -62,7 +62,7 @@ Valid table index channel = (inGrid (table .grid) index ≡ true) × (channel < 
 -- each valid index reads inside so many bytes
 abbrev pub IndexInside : Table → ℕ → Type 0
 IndexInside table bytes =
-    (index : List ℕ) (channel : ℕ) → Valid table index channel → numberOf table index channel * table .size + table .size ≤ bytes
+    (index : List ℕ) (channel : ℕ) → Valid table index channel → entryNumber table index channel * table .size + table .size ≤ bytes
 
 -- curve k of those that a walk meets in the tag, A, M and B in turn, and record k in the slots
 abbrev pub curveAt : Walk → Call → ℕ → Placed
@@ -74,7 +74,7 @@ recordIn slots k = take recordWords (drop (k * recordWords) slots)
 -- the words are the record of the curve, which stands in the tag t, and the data that they tell of end there
 pub record CurveInside (limit : ℕ) (t words : List ℕ) (curve : Placed) : Type 0 where
   pub record-is : words ≡ wordsOf (curve .at + 12) (curve .shape)
-  pub stands : Stands limit t curve
+  pub stands : CurveStands limit t curve
   pub data-in-tag : dataEnd words ≤ length t
 
 -- byte 16 gives no offset of a matrix: the answer has the identity and no bias
@@ -107,14 +107,14 @@ pub record GridInside (t : List ℕ) (answer : Lut·Answer) (f : Abm) : Type 0 w
   pub size-is : f .size ≡ getD t (u32At t 24 + 16) 0
 
 -- 'mAB ' leads towards the connection space, 'mBA ' away from it
-abbrev pub Direction : List ℕ → Bool → Type 0
-Direction t toPcs =
+abbrev pub DirectionIs : List ℕ → Bool → Type 0
+DirectionIs t toPcs =
     ((u32At t 0 ≡ signatureOf Mab) × (toPcs ≡ true)) ⊎ ((u32At t 0 ≡ signatureOf Mba) × (toPcs ≡ false))
 
 -- an accepted `mAB ` or `mBA `: its answer, whose numbers are f, and the slots as they are left. Without a colour table an entry has no bytes
 pub record AbmInside (walk : Walk) (c : Call) (answer : Lut·Answer) (f : Abm) (slots : List ℕ) : Type 0 where
   pub tag-in-profile : TagInside c
-  pub direction-is : Direction (tag c) (f .toPcs)
+  pub direction-is : DirectionIs (tag c) (f .toPcs)
   pub inputs-are : f .inputs ≡ getD (tag c) 8 0
   pub outputs-are : f .outputs ≡ getD (tag c) 9 0
   pub curves-in-tag : (k : ℕ) → k < f .a + f .m + f .b → CurveInside (c .entries) (tag c) (recordIn slots k) (curveAt walk c k)
@@ -192,14 +192,14 @@ pub record Demand1 (l : Library) : Type 0 where
   pub absence-leaves-slots : (r : Reader) (c : Call) → ends l r c ≡ absent → l .leaves r c ≡ c .slots
   -- in an accepted lookup table each curve, matrix and table lies inside its tag, the answer has them as they stand there, and each valid
   -- index reads inside the colour table
-  pub abm-inside : (walk : Walk) (c : Call) (f : Abm) → says l (lut walk) c .state ≡ abm f → AbmInside walk c (says l (lut walk) c) f (l .leaves (lut walk) c)
-  pub mft-inside : (walk : Walk) (c : Call) (f : Fields) → says l (lut walk) c .state ≡ mft f → MftInside c (says l (lut walk) c) f
+  pub abm-inside : (walk : Walk) (c : Call) (f : Abm) → answered l (lut walk) c .state ≡ abm f → AbmInside walk c (answered l (lut walk) c) f (l .leaves (lut walk) c)
+  pub mft-inside : (walk : Walk) (c : Call) (f : Fields) → answered l (lut walk) c .state ≡ mft f → MftInside c (answered l (lut walk) c) f
   -- and what the other readers accept
-  pub curve-inside : (walk : Walk) (c : Call) (words : List ℕ) (consumed : ℕ) → says l (trc walk) c ≡ Curve·Answer.value words consumed → (dataEnd words ≤ length (curveTag c)) × (c .entry + c .size ≤ length (c .profile))
-  pub text-inside : (c : Call) → TextInside c (l .leaves string c) (says l string c)
+  pub curve-inside : (walk : Walk) (c : Call) (words : List ℕ) (consumed : ℕ) → answered l (trc walk) c ≡ Curve·Answer.value words consumed → (dataEnd words ≤ length (curveTag c)) × (c .entry + c .size ≤ length (c .profile))
+  pub text-inside : (c : Call) → TextInside c (l .leaves string c) (answered l string c)
   pub fields-inside : (s : Small) (c : Call) → ends l (small s) c ≡ value → FieldsInside s c
   -- no byte of the profile but those of the fields matters to a small reader's value
-  pub fields-alone : (s : Small) (c : Call) (p : List ℕ) → ends l (small s) c ≡ value → length (c .profile) ≤ length p → SameFields s c p → says l (small s) (onProfile p c) ≡ says l (small s) c
+  pub fields-alone : (s : Small) (c : Call) (p : List ℕ) → ends l (small s) c ≡ value → length (c .profile) ≤ length p → SameFields s c p → answered l (small s) (onProfile p c) ≡ answered l (small s) c
 
 -- ---- demand 2, its proved half
 
@@ -212,18 +212,18 @@ InProfile c = c .entry + c .size ≤ length (c .profile)
 
 -- a small reader, under whatever limits and slots
 abbrev pub reader : Library → Call → Small → List ℕ → ℕ → ℕ → Small·Answer
-reader l c s p entry size = says l (small s) record { profile = p; entry = entry; size = size; entries = c .entries; points = c .points; slots = c .slots }
+reader l c s p entry size = answered l (small s) record { profile = p; entry = entry; size = size; entries = c .entries; points = c .points; slots = c .slots }
 
 -- what a view by the numbers of an answer shows
-abbrev pub shown : Library → Call → State → List ℕ → ℕ → Told
-shown l c state point channel = Table·paper (l .reads (bytes c) (numbersOf state) point channel)
+abbrev pub shown : Library → Call → State → List ℕ → ℕ → Answer
+shown l c state point channel = Table·inNumbers (l .reads (bytes c) (numbersOf state) point channel)
 
 -- a valid index of a view reads the entry of the table, and it stands inside so many bytes from the table's start on
 abbrev pub Shows : Library → List ℕ → TableNumbers → Table → ℕ → Type 0
 Shows l t n table bytes =
     (index : List ℕ) (channel : ℕ) → Valid table index channel
-    → (Table·paper (l .reads t n index channel) ≡ Told.value (storedAt t (table .start + numberOf table index channel * table .size) (table .size)))
-    × (numberOf table index channel * table .size + table .size ≤ bytes)
+    → (Table·inNumbers (l .reads t n index channel) ≡ Answer.value (storedAt t (table .start + entryNumber table index channel * table .size) (table .size)))
+    × (entryNumber table index channel * table .size + table .size ≤ bytes)
 
 -- answers are those of the definitions, and these conform to the standards, both ways: what the standard writes (crate `icc`) is answered with
 -- what was written, and what is answered is what the standard writes. The conditions are entries of docs/DIFFERENCES.md
@@ -232,34 +232,34 @@ pub record Demand2 (l : Library) : Type 0 where
   -- one call, one answer
   pub once : (r : Reader) (c : Call) (x : Result r) → numbers r x ≡ meaning r c → x ≡ l .returns r c
   -- curveType and parametricCurveType
-  pub curve-read : (walk : Walk) (c : Call) (x : Curve) (rest : List ℕ) → Fits (c .entries) x → Tag (c .profile) (c .entry) (c .size) (curveElement x ++ rest) → says l (trc walk) c ≡ Curve·Answer.value (toldOf 12 x) (stepTold walk x)
-  pub curve-written : (walk : Walk) (c : Call) → Bytes (c .profile) → (ws : List ℕ) (consumed : ℕ) → says l (trc walk) c ≡ Curve·Answer.value ws consumed → Lone walk (c .entries) (c .profile) (c .entry) (c .size) ws consumed
+  pub curve-read : (walk : Walk) (c : Call) (x : Curve) (rest : List ℕ) → Fits (c .entries) x → Tag (c .profile) (c .entry) (c .size) (curveElement x ++ rest) → answered l (trc walk) c ≡ Curve·Answer.value (recordTold 12 x) (stepTold walk x)
+  pub curve-written : (walk : Walk) (c : Call) → Bytes (c .profile) → (ws : List ℕ) (consumed : ℕ) → answered l (trc walk) c ≡ Curve·Answer.value ws consumed → Lone walk (c .entries) (c .profile) (c .entry) (c .size) ws consumed
   -- lutAToBType and lutBToAType: the answer, and the records in the slots. The crate walk goes as the standard lays curves out where none but a
   -- run's last is empty (`CurvesTaken`, `PassesBy`); all else is as it is written on either walk
-  pub abm-read : (walk : Walk) (c : Call) (x : LutTag (bytes c)) → InProfile c → 48 ≤ c .size → PartsTaken (x .parts) → CurvesTaken walk (c .entries) (x .curves) → (length (x .curves .a) + length (x .curves .m) + length (x .curves .b)) * recordWords ≤ length (c .slots) → let records : List ℕ = recordsWritten (x .curves) in (says l (lut walk) c ≡ told (x .parts)) × (l .leaves (lut walk) c ≡ records ++ drop (length records) (c .slots))
-  pub abm-written : (walk : Walk) (c : Call) → Bytes (c .profile) → (f : Abm) → says l (lut walk) c .state ≡ abm f → (1 ≤ f .size → f .inputs ≤ 16) → InProfile c × PartsAs (bytes c) (says l (lut walk) c)
-  pub curves-written : (walk : Walk) (c : Call) → Bytes (c .profile) → (f : Abm) → says l (lut walk) c .state ≡ abm f → (1 ≤ f .size → f .inputs ≤ 16) → PassesBy walk (l .leaves (lut walk) c) (f .a) (f .m) (f .b) → TagAs walk (c .entries) (bytes c) (says l (lut walk) c) (c .slots) (l .leaves (lut walk) c)
+  pub abm-read : (walk : Walk) (c : Call) (x : LutTag (bytes c)) → InProfile c → 48 ≤ c .size → PartsTaken (x .parts) → CurvesTaken walk (c .entries) (x .curves) → (length (x .curves .a) + length (x .curves .m) + length (x .curves .b)) * recordWords ≤ length (c .slots) → let records : List ℕ = recordsWritten (x .curves) in (answered l (lut walk) c ≡ answerTold (x .parts)) × (l .leaves (lut walk) c ≡ records ++ drop (length records) (c .slots))
+  pub abm-written : (walk : Walk) (c : Call) → Bytes (c .profile) → (f : Abm) → answered l (lut walk) c .state ≡ abm f → (1 ≤ f .size → f .inputs ≤ 16) → InProfile c × PartsAs (bytes c) (answered l (lut walk) c)
+  pub curves-written : (walk : Walk) (c : Call) → Bytes (c .profile) → (f : Abm) → answered l (lut walk) c .state ≡ abm f → (1 ≤ f .size → f .inputs ≤ 16) → PassesBy walk (l .leaves (lut walk) c) (f .a) (f .m) (f .b) → TagAs walk (c .entries) (bytes c) (answered l (lut walk) c) (c .slots) (l .leaves (lut walk) c)
   -- the number of records is the channels of the runs that are there
-  pub abm-counts : (walk : Walk) (c : Call) (f : Abm) → says l (lut walk) c .state ≡ abm f → Counts (bytes c) f
+  pub abm-counts : (walk : Walk) (c : Call) (f : Abm) → answered l (lut walk) c .state ≡ abm f → Counts (bytes c) f
   -- lut16Type and lut8Type
-  pub wide-read : (walk : Walk) (c : Call) (reserved reserved2 n m : ℕ) (x : Lut) (rest : List ℕ) → InProfile c → 48 ≤ c .size → MftTaken (c .points) x → Entries16 n → Entries16 m → Sized n m x → bytes c ≡ lut16Type reserved reserved2 n m x ++ rest → says l (lut walk) c ≡ record { state = mft (told16 n m x); grid = replicate 16 0; matrix = nine (x .matrix); bias = replicate 3 0 }
-  pub narrow-read : (walk : Walk) (c : Call) (reserved reserved2 : ℕ) (x : Lut) (rest : List ℕ) → InProfile c → 48 ≤ c .size → MftTaken (c .points) x → Sized 256 256 x → bytes c ≡ lut8Type reserved reserved2 x ++ rest → says l (lut walk) c ≡ record { state = mft (told8 x); grid = replicate 16 0; matrix = nine (x .matrix); bias = replicate 3 0 }
-  pub mft-written : (walk : Walk) (c : Call) → Bytes (c .profile) → (f : Fields) → says l (lut walk) c .state ≡ mft f → let matrix : List ℕ = says l (lut walk) c .matrix in InProfile c × (Begins8 (c .points) (bytes c) f matrix ⊎ Begins16 (c .points) (bytes c) f matrix)
+  pub wide-read : (walk : Walk) (c : Call) (reserved reserved2 n m : ℕ) (x : Lut) (rest : List ℕ) → InProfile c → 48 ≤ c .size → MftTaken (c .points) x → Entries16 n → Entries16 m → Sized n m x → bytes c ≡ lut16Type reserved reserved2 n m x ++ rest → answered l (lut walk) c ≡ record { state = mft (fieldsTold16 n m x); grid = replicate 16 0; matrix = nine (x .matrix); bias = replicate 3 0 }
+  pub narrow-read : (walk : Walk) (c : Call) (reserved reserved2 : ℕ) (x : Lut) (rest : List ℕ) → InProfile c → 48 ≤ c .size → MftTaken (c .points) x → Sized 256 256 x → bytes c ≡ lut8Type reserved reserved2 x ++ rest → answered l (lut walk) c ≡ record { state = mft (fieldsTold8 x); grid = replicate 16 0; matrix = nine (x .matrix); bias = replicate 3 0 }
+  pub mft-written : (walk : Walk) (c : Call) → Bytes (c .profile) → (f : Fields) → answered l (lut walk) c .state ≡ mft f → let matrix : List ℕ = answered l (lut walk) c .matrix in InProfile c × (Begins8 (c .points) (bytes c) f matrix ⊎ Begins16 (c .points) (bytes c) f matrix)
   -- textType, textDescriptionType and multiLocalizedUnicodeType, as `icc` writes them; what is taken besides stands in
   -- text_meaning/specs/Standard.antt
-  pub text-read : (c : Call) (reserved : ℕ) (cs : List ℕ) → Ascii cs → TagInside c → tag c ≡ textType reserved (terminated cs) → says l string c ≡ Text·Answer.text (span 8 (length cs))
-  pub text-written : (c : Call) → Bytes (c .profile) → (s : Span) → says l string c ≡ Text·Answer.text s → TagInside c × BeginsText (tag c) s
-  pub desc-read : (c : Call) (reserved : ℕ) (d : Description) (rest : List ℕ) → IsDescription d → TagInside c → tag c ≡ textDescriptionType reserved d ++ rest → says l string c ≡ descriptionTold d
-  pub desc-written : (c : Call) → Bytes (c .profile) → (s : Span) (u : Unicode) → says l string c ≡ Text·Answer.desc s u → TagInside c × BeginsDescription (tag c) s u
-  pub mluc-read : (c : Call) (t : LocalizedTag (tag c)) → MlucAsked t → TagInside c → length (t .records) * textWords ≤ length (c .slots) → let records : List ℕ = recordsTold (t .records) in (says l string c ≡ Text·Answer.mluc (length (t .records))) × (l .leaves string c ≡ records ++ drop (length records) (c .slots))
-  pub mluc-written : (c : Call) → Bytes (c .profile) → (n : ℕ) → says l string c ≡ Text·Answer.mluc n → ReadLocalized (c .profile) (c .entry) (c .size) n (c .slots) (l .leaves string c)
+  pub text-read : (c : Call) (reserved : ℕ) (cs : List ℕ) → Ascii cs → TagInside c → tag c ≡ textType reserved (terminated cs) → answered l string c ≡ Text·Answer.text (span 8 (length cs))
+  pub text-written : (c : Call) → Bytes (c .profile) → (s : Span) → answered l string c ≡ Text·Answer.text s → TagInside c × BeginsText (tag c) s
+  pub desc-read : (c : Call) (reserved : ℕ) (d : Description) (rest : List ℕ) → IsDescription d → TagInside c → tag c ≡ textDescriptionType reserved d ++ rest → answered l string c ≡ descriptionTold d
+  pub desc-written : (c : Call) → Bytes (c .profile) → (s : Span) (u : Unicode) → answered l string c ≡ Text·Answer.desc s u → TagInside c × BeginsDescription (tag c) s u
+  pub mluc-read : (c : Call) (t : LocalizedTag (tag c)) → MlucAsked t → TagInside c → length (t .records) * textWords ≤ length (c .slots) → let records : List ℕ = localizedTold (t .records) in (answered l string c ≡ Text·Answer.mluc (length (t .records))) × (l .leaves string c ≡ records ++ drop (length records) (c .slots))
+  pub mluc-written : (c : Call) → Bytes (c .profile) → (n : ℕ) → answered l string c ≡ Text·Answer.mluc n → ReadLocalized (c .profile) (c .entry) (c .size) n (c .slots) (l .leaves string c)
   -- the types of the small readers; of an XYZType the first number is answered, and of a date the one at the front of the profile
-  pub chad-read : (c : Call) (reserved : ℕ) (ns : List ℕ) → length ns ≡ 9 → Each32 ns → InProfile c → bytes c ≡ s15Fixed16ArrayType reserved ns → says l (small chad) c ≡ Small·Answer.value ns
-  pub chad-written : (c : Call) (ws : List ℕ) → Bytes (c .profile) → says l (small chad) c ≡ Small·Answer.value ws → BeginsNine (c .profile) (c .entry) (c .size) ws
+  pub chad-read : (c : Call) (reserved : ℕ) (ns : List ℕ) → length ns ≡ 9 → Each32 ns → InProfile c → bytes c ≡ s15Fixed16ArrayType reserved ns → answered l (small chad) c ≡ Small·Answer.value ns
+  pub chad-written : (c : Call) (ws : List ℕ) → Bytes (c .profile) → answered l (small chad) c ≡ Small·Answer.value ws → BeginsNine (c .profile) (c .entry) (c .size) ws
   pub sig-read : (c : Call) → WrittenRead (reader l c sig) signatureType signatureTold Is32
   pub sig-written : (c : Call) → ReadWritten (reader l c sig) signatureType signatureTold (λ p entry size. Unit)
-  pub date-read : (c : Call) (reserved : ℕ) (in-tag in-front : DateTime) (rest : List ℕ) → InProfile c → bytes c ≡ dateTimeType reserved in-tag ++ rest → drop 8 (take 20 (c .profile)) ≡ dateTimeNumber in-front → says l (small date) c ≡ Small·Answer.value (dateTimeNumber in-front)
-  pub date-written : (c : Call) (ws : List ℕ) → Bytes (c .profile) → says l (small date) c ≡ Small·Answer.value ws → BeginsDate (c .profile) (c .entry) (c .size) ws
+  pub date-read : (c : Call) (reserved : ℕ) (in-tag in-front : DateTime) (rest : List ℕ) → InProfile c → bytes c ≡ dateTimeType reserved in-tag ++ rest → drop 8 (take 20 (c .profile)) ≡ dateTimeNumber in-front → answered l (small date) c ≡ Small·Answer.value (dateTimeNumber in-front)
+  pub date-written : (c : Call) (ws : List ℕ) → Bytes (c .profile) → answered l (small date) c ≡ Small·Answer.value ws → BeginsDate (c .profile) (c .entry) (c .size) ws
   pub meas-read : (c : Call) → WrittenRead (reader l c meas) measurementType measurementTold (λ x. Each32 (measurementTold x))
   pub meas-written : (c : Call) → ReadWritten (reader l c meas) measurementType measurementTold (λ p entry size. 36 ≤ size)
   pub view-read : (c : Call) → WrittenRead (reader l c view) viewingConditionsType viewTold (λ x. Each32 (viewTold x))
@@ -269,33 +269,33 @@ pub record Demand2 (l : Library) : Type 0 where
   pub cicp-read : (c : Call) → WrittenRead (reader l c cicp) cicpType cicpTold (λ x. Unit)
   pub cicp-written : (c : Call) → ReadWritten (reader l c cicp) cicpType cicpTold (λ p entry size. Unit)
   -- the view of an accepted lookup table; offsets and sizes are 32-bit values
-  pub abm-shown : (walk : Walk) (c : Call) (f : Abm) → c .size < 2 ^ 32 → says l (lut walk) c .state ≡ abm f → 1 ≤ f .size → Shows l (tag c) (numbersOf (abm f)) (Abm·toldTable (says l (lut walk) c .grid) f) (f .bytes)
-  pub mft-shown : (walk : Walk) (c : Call) (f : Fields) → c .size < 2 ^ 32 → says l (lut walk) c .state ≡ mft f → Shows l (tag c) (numbersOf (mft f)) (Mft·toldTable f) (f .clutBytes)
+  pub abm-shown : (walk : Walk) (c : Call) (f : Abm) → c .size < 2 ^ 32 → answered l (lut walk) c .state ≡ abm f → 1 ≤ f .size → Shows l (tag c) (numbersOf (abm f)) (Abm·toldTable (answered l (lut walk) c .grid) f) (f .bytes)
+  pub mft-shown : (walk : Walk) (c : Call) (f : Fields) → c .size < 2 ^ 32 → answered l (lut walk) c .state ≡ mft f → Shows l (tag c) (numbersOf (mft f)) (Mft·toldTable f) (f .clutBytes)
   -- it shows the colours that the standard writes, each at its point
-  pub abm-in-order : (walk : Walk) (c : Call) (x : LutParts (bytes c)) → c .size < 2 ^ 32 → 48 ≤ c .size → PartsTaken x → says l (lut walk) c ≡ told x → ShowsClut (shown l c (told x .state)) (x .clut)
-  pub wide-in-order : (walk : Walk) (c : Call) (reserved reserved2 n m : ℕ) (x : Lut) (rest : List ℕ) → c .size < 2 ^ 32 → 48 ≤ c .size → Sized n m x → Each16 (x .clut) → bytes c ≡ lut16Type reserved reserved2 n m x ++ rest → says l (lut walk) c .state ≡ mft (told16 n m x) → ShowsColours (shown l c (mft (told16 n m x))) (replicate (x .inputChannels) (x .gridPoints)) (x .outputChannels) (x .clut)
-  pub narrow-in-order : (walk : Walk) (c : Call) (reserved reserved2 : ℕ) (x : Lut) (rest : List ℕ) → c .size < 2 ^ 32 → 48 ≤ c .size → Sized 256 256 x → bytes c ≡ lut8Type reserved reserved2 x ++ rest → says l (lut walk) c .state ≡ mft (told8 x) → ShowsColours (shown l c (mft (told8 x))) (replicate (x .inputChannels) (x .gridPoints)) (x .outputChannels) (x .clut)
+  pub abm-in-order : (walk : Walk) (c : Call) (x : LutParts (bytes c)) → c .size < 2 ^ 32 → 48 ≤ c .size → PartsTaken x → answered l (lut walk) c ≡ answerTold x → ShowsClut (shown l c (answerTold x .state)) (x .clut)
+  pub wide-in-order : (walk : Walk) (c : Call) (reserved reserved2 n m : ℕ) (x : Lut) (rest : List ℕ) → c .size < 2 ^ 32 → 48 ≤ c .size → Sized n m x → Each16 (x .clut) → bytes c ≡ lut16Type reserved reserved2 n m x ++ rest → answered l (lut walk) c .state ≡ mft (fieldsTold16 n m x) → ShowsColours (shown l c (mft (fieldsTold16 n m x))) (replicate (x .inputChannels) (x .gridPoints)) (x .outputChannels) (x .clut)
+  pub narrow-in-order : (walk : Walk) (c : Call) (reserved reserved2 : ℕ) (x : Lut) (rest : List ℕ) → c .size < 2 ^ 32 → 48 ≤ c .size → Sized 256 256 x → bytes c ≡ lut8Type reserved reserved2 x ++ rest → answered l (lut walk) c .state ≡ mft (fieldsTold8 x) → ShowsColours (shown l c (mft (fieldsTold8 x))) (replicate (x .inputChannels) (x .gridPoints)) (x .outputChannels) (x .clut)
   -- any view: what is not valid is absent
-  pub not-shown : (t : List ℕ) (n : TableNumbers) (index : List ℕ) (channel : ℕ) → inGrid (tableBy t n .grid) index && ltb channel (n .outputs) ≡ false → Table·paper (l .reads t n index channel) ≡ Told.absent
+  pub not-shown : (t : List ℕ) (n : TableNumbers) (index : List ℕ) (channel : ℕ) → inGrid (tableBy t n .grid) index && ltb channel (n .outputs) ≡ false → Table·inNumbers (l .reads t n index channel) ≡ Answer.absent
 
 -- ---- demand 3
 
 -- a call with bytes behind its profile, with other limits, with words behind its slots
-abbrev pub appended : List ℕ → Call → Call
-appended q c =
+abbrev pub withBytes : List ℕ → Call → Call
+withBytes q c =
     record { profile = c .profile ++ q; entry = c .entry; size = c .size; entries = c .entries; points = c .points; slots = c .slots }
 
-abbrev pub raised : ℕ → ℕ → Call → Call
-raised entries points c =
+abbrev pub withLimits : ℕ → ℕ → Call → Call
+withLimits entries points c =
     record { profile = c .profile; entry = c .entry; size = c .size; entries = entries; points = points; slots = c .slots }
 
-abbrev pub lent : List ℕ → Call → Call
-lent x c =
+abbrev pub withSlots : List ℕ → Call → Call
+withSlots x c =
     record { profile = c .profile; entry = c .entry; size = c .size; entries = c .entries; points = c .points; slots = c .slots ++ x }
 
 -- with all three
-abbrev pub given : List ℕ → ℕ → ℕ → List ℕ → Call → Call
-given q entries points x c = lent x (raised entries points (appended q c))
+abbrev pub withAll : List ℕ → ℕ → ℕ → List ℕ → Call → Call
+withAll q entries points x c = withSlots x (withLimits entries points (withBytes q c))
 
 -- the call d is answered as c, every field, range and record; words x that it was lent besides stay
 pub record Same (l : Library) (r : Reader) (c d : Call) (x : List ℕ) : Type 0 where
@@ -337,14 +337,14 @@ wordsAsked (small s) c = 0
 -- giving more never spoils a good answer
 pub record Demand3 (l : Library) : Type 0 where
   -- alone
-  pub bytes : (r : Reader) (c : Call) (q : List ℕ) → ByBytes r c (ends l r c) ⊎ Same l r c (appended q c) []
-  pub limits : (r : Reader) (c : Call) (entries points : ℕ) → c .entries ≤ entries → c .points ≤ points → ByLimits c entries points (ends l r c) ⊎ Same l r c (raised entries points c) []
-  pub slots : (r : Reader) (c : Call) (x : List ℕ) → BySlots (ends l r c) ⊎ Same l r c (lent x c) x
+  pub bytes : (r : Reader) (c : Call) (q : List ℕ) → ByBytes r c (ends l r c) ⊎ Same l r c (withBytes q c) []
+  pub limits : (r : Reader) (c : Call) (entries points : ℕ) → c .entries ≤ entries → c .points ≤ points → ByLimits c entries points (ends l r c) ⊎ Same l r c (withLimits entries points c) []
+  pub slots : (r : Reader) (c : Call) (x : List ℕ) → BySlots (ends l r c) ⊎ Same l r c (withSlots x c) x
   -- refusal 14 comes last: the slots do not hold the records, and a call that is lent enough ends with a value
   pub fourteen-short : (r : Reader) (c : Call) → ends l r c ≡ refused 14 → length (c .slots) < wordsAsked r c
-  pub fourteen-last : (r : Reader) (c : Call) (x : List ℕ) → ends l r c ≡ refused 14 → wordsAsked r c ≤ length (c .slots ++ x) → ends l r (lent x c) ≡ value
+  pub fourteen-last : (r : Reader) (c : Call) (x : List ℕ) → ends l r c ≡ refused 14 → wordsAsked r c ≤ length (c .slots ++ x) → ends l r (withSlots x c) ≡ value
   -- together
-  pub all : (r : Reader) (c : Call) (q : List ℕ) (entries points : ℕ) (x : List ℕ) → c .entries ≤ entries → c .points ≤ points → (ByBytes r c (ends l r c) ⊎ ByLimits c entries points (ends l r c) ⊎ BySlots (ends l r c)) ⊎ Same l r c (given q entries points x c) x
+  pub all : (r : Reader) (c : Call) (q : List ℕ) (entries points : ℕ) (x : List ℕ) → c .entries ≤ entries → c .points ≤ points → (ByBytes r c (ends l r c) ⊎ ByLimits c entries points (ends l r c) ⊎ BySlots (ends l r c)) ⊎ Same l r c (withAll q entries points x c) x
   -- so a value stays, and a default
-  pub value-stays : (r : Reader) (c : Call) (q : List ℕ) (entries points : ℕ) (x : List ℕ) → c .entries ≤ entries → c .points ≤ points → ends l r c ≡ value → Same l r c (given q entries points x c) x
-  pub default-stays : (r : Reader) (c : Call) (q : List ℕ) (entries points : ℕ) (x : List ℕ) → c .entries ≤ entries → c .points ≤ points → ends l r c ≡ default → Same l r c (given q entries points x c) x
+  pub value-stays : (r : Reader) (c : Call) (q : List ℕ) (entries points : ℕ) (x : List ℕ) → c .entries ≤ entries → c .points ≤ points → ends l r c ≡ value → Same l r c (withAll q entries points x c) x
+  pub default-stays : (r : Reader) (c : Call) (q : List ℕ) (entries points : ℕ) (x : List ℕ) → c .entries ≤ entries → c .points ≤ points → ends l r c ≡ default → Same l r c (withAll q entries points x c) x

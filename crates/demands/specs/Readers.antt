@@ -3,17 +3,17 @@ use Prim.Native.Nat.{ℕ}
 use mathlib.Core.Path.{_≡_}
 use mathlib.Core.List.{List}
 use lib.ListN.{length}
-use Rattle.curve_meaning.specs.Answer.{Answer as Curve·Answer, paper as Curve·paper}
+use Rattle.curve_meaning.specs.Answer.{Answer as Curve·Answer, inNumbers as Curve·inNumbers}
 use Rattle.curve_meaning.specs.Curve.{trcOf}
 use Rattle.curve_meaning.specs.declared.CurveAnswer.{CurveAnswer}
 use Rattle.curve_meaning.specs.declared.Walk.{Walk}
-use Rattle.lut_meaning.specs.Answer.{State, Answer as Lut·Answer, paper as Lut·paper}
-use Rattle.lut_meaning.specs.Lut.{lutOf, leftOf as Lut·leftOf}
+use Rattle.lut_meaning.specs.Answer.{State, Answer as Lut·Answer, inNumbers as Lut·inNumbers}
+use Rattle.lut_meaning.specs.Lut.{lutOf, slotsAfter as Lut·slotsAfter}
 use Rattle.lut_meaning.specs.declared.Lut.{Lut}
-use Rattle.text_meaning.specs.Answer.{Answer as Text·Answer, paper as Text·paper}
-use Rattle.text_meaning.specs.Text.{stringOf, leftOf as Text·leftOf}
+use Rattle.text_meaning.specs.Answer.{Answer as Text·Answer, inNumbers as Text·inNumbers}
+use Rattle.text_meaning.specs.Text.{stringOf, slotsAfter as Text·slotsAfter}
 use Rattle.text_meaning.specs.declared.TextAnswer.{TextAnswer}
-use Rattle.small_meaning.specs.Answer.{Answer as Small·Answer, paperChad, paperSig, paperDate, paperMeas, paperView, paperXyz, paperCicp}
+use Rattle.small_meaning.specs.Answer.{Answer as Small·Answer, chadInNumbers, sigInNumbers, dateInNumbers, measInNumbers, viewInNumbers, xyzInNumbers, cicpInNumbers}
 use Rattle.small_meaning.specs.Small.{chadOf, sigOf, dateOf, measOf, viewOf, xyzOf, cicpOf}
 use Rattle.small_meaning.specs.declared.ChadAnswer.{ChadAnswer}
 use Rattle.small_meaning.specs.declared.CicpAnswer.{CicpAnswer}
@@ -22,7 +22,7 @@ use Rattle.small_meaning.specs.declared.MeasAnswer.{MeasAnswer}
 use Rattle.small_meaning.specs.declared.SigAnswer.{SigAnswer}
 use Rattle.small_meaning.specs.declared.ViewAnswer.{ViewAnswer}
 use Rattle.small_meaning.specs.declared.XyzAnswer.{XyzAnswer}
-use Rattle.lut_view_meaning.specs.Answer.{paper as Table·paper}
+use Rattle.lut_view_meaning.specs.Answer.{inNumbers as Table·inNumbers}
 use Rattle.lut_view_meaning.specs.View.{tableBy, entryOf}
 use Rattle.lut_view_meaning.specs.declared.EntryAnswer.{EntryAnswer}
 use Rattle.lut_view_meaning.specs.declared.TableNumbers.{TableNumbers}
@@ -82,18 +82,18 @@ Numbers string = Text·Answer
 Numbers (small s) = Small·Answer
 
 abbrev pub smallNumbers : (s : Small) → SmallResult s → Small·Answer
-smallNumbers chad x = paperChad x
-smallNumbers sig x = paperSig x
-smallNumbers date x = paperDate x
-smallNumbers meas x = paperMeas x
-smallNumbers view x = paperView x
-smallNumbers xyz x = paperXyz x
-smallNumbers cicp x = paperCicp x
+smallNumbers chad x = chadInNumbers x
+smallNumbers sig x = sigInNumbers x
+smallNumbers date x = dateInNumbers x
+smallNumbers meas x = measInNumbers x
+smallNumbers view x = viewInNumbers x
+smallNumbers xyz x = xyzInNumbers x
+smallNumbers cicp x = cicpInNumbers x
 
 abbrev pub numbers : (r : Reader) → Result r → Numbers r
-numbers (lut walk) x = Lut·paper x
-numbers (trc walk) x = Curve·paper x
-numbers string x = Text·paper x
+numbers (lut walk) x = Lut·inNumbers x
+numbers (trc walk) x = Curve·inNumbers x
+numbers string x = Text·inNumbers x
 numbers (small s) x = smallNumbers s x
 
 -- the numbers that a call is to be answered with
@@ -113,11 +113,11 @@ meaning string c = stringOf (c .profile) (c .entry) (c .size) (length (c .slots)
 meaning (small s) c = smallOf s (c .profile) (c .entry) (c .size)
 
 -- and what it is to leave in the slots: the records that it read, in front, if its answer has records
-abbrev pub left : Reader → Call → List ℕ
-left (lut walk) c = Lut·leftOf walk (c .entries) (c .points) (c .profile) (c .entry) (c .size) (c .slots)
-left (trc walk) c = c .slots
-left string c = Text·leftOf (c .profile) (c .entry) (c .size) (c .slots)
-left (small s) c = c .slots
+abbrev pub slotsAfter : Reader → Call → List ℕ
+slotsAfter (lut walk) c = Lut·slotsAfter walk (c .entries) (c .points) (c .profile) (c .entry) (c .size) (c .slots)
+slotsAfter (trc walk) c = c .slots
+slotsAfter string c = Text·slotsAfter (c .profile) (c .entry) (c .size) (c .slots)
+slotsAfter (small s) c = c .slots
 
 -- the ways in which a call can end
 pub data Outcome : Type 0 where
@@ -163,25 +163,25 @@ pub record Library : Type 0 where
   pub reads : List ℕ → TableNumbers → List ℕ → ℕ → EntryAnswer
 
 -- what a call is answered with, in numbers, and how it ends
-abbrev pub says : Library → (r : Reader) → Call → Numbers r
-says l r c = numbers r (l .returns r c)
+abbrev pub answered : Library → (r : Reader) → Call → Numbers r
+answered l r c = numbers r (l .returns r c)
 
 abbrev pub ends : Library → Reader → Call → Outcome
-ends l r c = outcome r (says l r c)
+ends l r c = outcome r (answered l r c)
 
 -- what a reader's contract says of a call: of the result that it returns, and of the slots as it leaves them
 abbrev pub Answers : (r : Reader) → Call → Result r → Type 0
 Answers r c x = numbers r x ≡ meaning r c
 
 abbrev pub Leaves : Reader → Call → List ℕ → Type 0
-Leaves r c slots = slots ≡ left r c
+Leaves r c slots = slots ≡ slotsAfter r c
 
 abbrev pub Keeps : (r : Reader) → Call → Result r → List ℕ → Type 0
 Keeps r c x slots = Answers r c x × Leaves r c slots
 
 -- and that of `lut_view::entry_at`, of the entry that it reads
 abbrev pub Reads : List ℕ → TableNumbers → List ℕ → ℕ → EntryAnswer → Type 0
-Reads t n index channel x = Table·paper x ≡ entryOf t (tableBy t n) index channel
+Reads t n index channel x = Table·inNumbers x ≡ entryOf t (tableBy t n) index channel
 
 -- the library keeps the contracts of the readers and of `lut_view::entry_at`. The functions of crate demands_kept say the same of the code
 pub record Promised (l : Library) : Type 0 where

@@ -19,7 +19,7 @@ use Rattle.small_meaning.specs.declared.SigAnswer.{SigAnswer}
 use Rattle.small_meaning.specs.declared.ViewAnswer.{ViewAnswer}
 use Rattle.small_meaning.specs.declared.XyzAnswer.{XyzAnswer}
 use Rattle.text_meaning.specs.declared.TextAnswer.{TextAnswer}
-use Rattle.demands.specs.Readers.{Small, chad, sig, date, meas, view, xyz, cicp, Reader, lut, trc, string, small, Call, SmallResult, Result, left, Library, Promised}
+use Rattle.demands.specs.Readers.{Small, chad, sig, date, meas, view, xyz, cicp, Reader, lut, trc, string, small, Call, SmallResult, Result, slotsAfter, Library, Promised}
 use Rattle.demands.specs.Demands.{tag, Demand1, Demand2}
 
 -- ---- one that refuses all
@@ -89,7 +89,7 @@ copiedIn (lut walk) c =
     let records = copies (recordsNeeded (tag c)) (take recordWords (recordsRead walk c)) in
     records ++ drop (length records) (c .slots)
 copiedIn (trc walk) c = c .slots
-copiedIn string c = left string c
+copiedIn string c = slotsAfter string c
 copiedIn (small s) c = c .slots
 
 abbrev pub copied : Library → Library
@@ -131,7 +131,7 @@ writtenIn (lut walk) c =
     let records = recordsRead walk c in
     records ++ drop (length records) (c .slots)
 writtenIn (trc walk) c = c .slots
-writtenIn string c = left string c
+writtenIn string c = slotsAfter string c
 writtenIn (small s) c = c .slots
 
 abbrev pub tooEarly : Library → Library
@@ -144,7 +144,7 @@ zerosIn (lut walk) c =
     let records : List ℕ = replicate (recordsNeeded (tag c) * recordWords) 0 in
     records ++ drop (length records) (c .slots)
 zerosIn (trc walk) c = c .slots
-zerosIn string c = left string c
+zerosIn string c = slotsAfter string c
 zerosIn (small s) c = c .slots
 
 abbrev pub zeroed : Library → Library

@@ -7,8 +7,8 @@ use Rattle.fields.specs.Tag.{signatureOf}
 use Rattle.fields.specs.declared.Kind.the-variants.{Mft1, Mft2, Mab, Mba}
 use Rattle.lut_mft_meaning.specs.Answer.{Fields}
 use Rattle.lut_meaning.specs.Answer.{Abm, State, Answer}
-use Rattle.lut_view_meaning.specs.Answer.{Told as Entry·Told}
-use Rattle.export_words.specs.Told.{Told, value, only, absent}
+use Rattle.lut_view_meaning.specs.Answer.{Answer as Entry·Answer}
+use Rattle.export_words.specs.Told.{Exported, value, only, absent}
 
 -- `mft1` and `mft2`: the type, channels, grid points, entries; the matrix; the range of each table
 abbrev pub mftHead : Fields → List ℕ
@@ -26,16 +26,16 @@ abmHead f = cond (f .toPcs) (signatureOf Mab) (signatureOf Mba) ∷ f .inputs �
 abbrev pub abmParts : Abm → List ℕ
 abmParts f = f .start ∷ f .bytes ∷ f .size ∷ f .a ∷ f .m ∷ f .b ∷ []
 
-abbrev pub lutBy : State → List ℕ → List ℕ → List ℕ → Told
-lutBy (State.mft f) grid matrix bias = value (mftHead f ++ matrix ++ mftRanges f)
-lutBy (State.abm f) grid matrix bias = value (abmHead f ++ grid ++ matrix ++ bias ++ abmParts f)
-lutBy State.absent grid matrix bias = absent
-lutBy (State.refused n) grid matrix bias = only n
+abbrev pub lutExportedBy : State → List ℕ → List ℕ → List ℕ → Exported
+lutExportedBy (State.mft f) grid matrix bias = value (mftHead f ++ matrix ++ mftRanges f)
+lutExportedBy (State.abm f) grid matrix bias = value (abmHead f ++ grid ++ matrix ++ bias ++ abmParts f)
+lutExportedBy State.absent grid matrix bias = absent
+lutExportedBy (State.refused n) grid matrix bias = only n
 
-abbrev pub lutTold : Answer → Told
-lutTold a = lutBy (a .state) (a .grid) (a .matrix) (a .bias)
+abbrev pub lutExported : Answer → Exported
+lutExported a = lutExportedBy (a .state) (a .grid) (a .matrix) (a .bias)
 
 -- the entry
-abbrev pub entryTold : Entry·Told → Told
-entryTold (Entry·Told.value n) = value (n ∷ [])
-entryTold Entry·Told.absent = absent
+abbrev pub entryExported : Entry·Answer → Exported
+entryExported (Entry·Answer.value n) = value (n ∷ [])
+entryExported Entry·Answer.absent = absent

@@ -1,12 +1,12 @@
 // What is told of a lookup table, and of an entry of a colour table.
+use export_words::ABSENT;
+use export_words::VALUE;
 use fields::Kind;
 use lut_meaning::AbmTable;
 use lut_meaning::Lut;
 use lut_meaning::LutAnswer;
 use lut_mft_meaning::MftTable;
 use lut_view_meaning::EntryAnswer;
-use export_words::ABSENT;
-use export_words::VALUE;
 ghost use mathlib.Core.Path.{_≡_};
 ghost use mathlib.Core.Bool.{cond};
 ghost use mathlib.Core.List.{_++_};
@@ -15,11 +15,11 @@ ghost use lib.ListN.{length};
 ghost use lib.Seq.{sets};
 ghost use Rattle.fields.specs.Tag.{signatureOf};
 ghost use Rattle.fields.specs.declared.Kind.the-variants.{Mft1, Mft2, Mab, Mba};
-ghost use Rattle.lut_meaning.specs.Answer.{paper, tableFrom};
+ghost use Rattle.lut_meaning.specs.Answer.{inNumbers, tableFrom};
 ghost use Rattle.lut_mft_meaning.specs.Answer.{fieldsFrom};
-ghost use Rattle.lut_view_meaning.specs.Answer.{paper as Entry·paper};
+ghost use Rattle.lut_view_meaning.specs.Answer.{inNumbers as Entry·inNumbers};
 ghost use Rattle.export_words.specs.Told.{Gave};
-ghost use Rattle.export_lut.specs.Layout.{mftHead, mftRanges, abmHead, abmParts, lutTold, entryTold};
+ghost use Rattle.export_lut.specs.Layout.{mftHead, mftRanges, abmHead, abmParts, lutExported, entryExported};
 
 // The signature of `mft1` or `mft2`, by the bytes of an entry.
 fn mft_type(size: u8) -> u32
@@ -110,7 +110,7 @@ fn put_abm(out: &mut [u64], t: AbmTable, grid: &[u8], matrix: &[u32], bias: &[u3
 
 // A lookup table: of `mft1` and `mft2` 21 words, of `mAB ` and `mBA ` 37, in the order of specs/Layout.antt.
 pub fn tell_lut(got: Lut, out: &mut [u64]) -> u32
-    ensures { λ r. ⌜ Gave (lutTold (paper got)) r (now (out .entry)) (now (out .exit)) ⌝ }
+    ensures { λ r. ⌜ Gave (lutExported (inNumbers got)) r (now (out .entry)) (now (out .exit)) ⌝ }
 {
     let answer = got.answer;
     let grid = got.grid;
@@ -132,7 +132,7 @@ pub fn tell_lut(got: Lut, out: &mut [u64]) -> u32
 
 // An entry of a colour table: one word.
 pub fn tell_entry(got: EntryAnswer, out: &mut [u64]) -> u32
-    ensures { λ r. ⌜ Gave (entryTold (Entry·paper got)) r (now (out .entry)) (now (out .exit)) ⌝ }
+    ensures { λ r. ⌜ Gave (entryExported (Entry·inNumbers got)) r (now (out .entry)) (now (out .exit)) ⌝ }
 {
     match got {
         EntryAnswer::Value(entry) => {

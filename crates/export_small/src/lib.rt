@@ -1,4 +1,7 @@
 // What is told of the small readers' answers: a status, and the words of a value.
+use export_words::ABSENT;
+use export_words::DEFAULT;
+use export_words::VALUE;
 use small_meaning::ChadAnswer;
 use small_meaning::CicpAnswer;
 use small_meaning::DateAnswer;
@@ -6,16 +9,13 @@ use small_meaning::MeasAnswer;
 use small_meaning::SigAnswer;
 use small_meaning::ViewAnswer;
 use small_meaning::XyzAnswer;
-use export_words::ABSENT;
-use export_words::DEFAULT;
-use export_words::VALUE;
-ghost use Rattle.small_meaning.specs.Answer.{paperChad, paperSig, paperDate, paperMeas, paperView, paperXyz, paperCicp};
+ghost use Rattle.small_meaning.specs.Answer.{chadInNumbers, sigInNumbers, dateInNumbers, measInNumbers, viewInNumbers, xyzInNumbers, cicpInNumbers};
 ghost use Rattle.export_words.specs.Told.{Gave};
-ghost use Rattle.export_small.specs.Layout.{smallTold};
+ghost use Rattle.export_small.specs.Layout.{smallExported};
 
 // `chad`: the matrix, row by row.
 pub fn tell_chad(got: ChadAnswer, out: &mut [u64]) -> u32
-    ensures { λ r. ⌜ Gave (smallTold (paperChad got)) r (now (out .entry)) (now (out .exit)) ⌝ }
+    ensures { λ r. ⌜ Gave (smallExported (chadInNumbers got)) r (now (out .entry)) (now (out .exit)) ⌝ }
 {
     match got {
         ChadAnswer::Value(m) => {
@@ -40,7 +40,7 @@ pub fn tell_chad(got: ChadAnswer, out: &mut [u64]) -> u32
 
 // `sig `: the signature.
 pub fn tell_sig(got: SigAnswer, out: &mut [u64]) -> u32
-    ensures { λ r. ⌜ Gave (smallTold (paperSig got)) r (now (out .entry)) (now (out .exit)) ⌝ }
+    ensures { λ r. ⌜ Gave (smallExported (sigInNumbers got)) r (now (out .entry)) (now (out .exit)) ⌝ }
 {
     match got {
         SigAnswer::Value { signature } => {
@@ -55,7 +55,7 @@ pub fn tell_sig(got: SigAnswer, out: &mut [u64]) -> u32
 
 // `dtim`: the twelve bytes.
 pub fn tell_date(got: DateAnswer, out: &mut [u64]) -> u32
-    ensures { λ r. ⌜ Gave (smallTold (paperDate got)) r (now (out .entry)) (now (out .exit)) ⌝ }
+    ensures { λ r. ⌜ Gave (smallExported (dateInNumbers got)) r (now (out .entry)) (now (out .exit)) ⌝ }
 {
     match got {
         DateAnswer::Value(d) => {
@@ -83,7 +83,7 @@ pub fn tell_date(got: DateAnswer, out: &mut [u64]) -> u32
 
 // `meas`: observer, backing, geometry, flare, illuminant.
 pub fn tell_meas(got: MeasAnswer, out: &mut [u64]) -> u32
-    ensures { λ r. ⌜ Gave (smallTold (paperMeas got)) r (now (out .entry)) (now (out .exit)) ⌝ }
+    ensures { λ r. ⌜ Gave (smallExported (measInNumbers got)) r (now (out .entry)) (now (out .exit)) ⌝ }
 {
     match got {
         MeasAnswer::Value(m) => {
@@ -99,7 +99,7 @@ pub fn tell_meas(got: MeasAnswer, out: &mut [u64]) -> u32
 
 // `view`: illuminant, surround, the number.
 pub fn tell_view(got: ViewAnswer, out: &mut [u64]) -> u32
-    ensures { λ r. ⌜ Gave (smallTold (paperView got)) r (now (out .entry)) (now (out .exit)) ⌝ }
+    ensures { λ r. ⌜ Gave (smallExported (viewInNumbers got)) r (now (out .entry)) (now (out .exit)) ⌝ }
 {
     match got {
         ViewAnswer::Value(v) => {
@@ -116,7 +116,7 @@ pub fn tell_view(got: ViewAnswer, out: &mut [u64]) -> u32
 
 // `XYZ `: X, Y and Z. On the default, which stands for three zeros, `out` stays.
 pub fn tell_xyz(got: XyzAnswer, out: &mut [u64]) -> u32
-    ensures { λ r. ⌜ Gave (smallTold (paperXyz got)) r (now (out .entry)) (now (out .exit)) ⌝ }
+    ensures { λ r. ⌜ Gave (smallExported (xyzInNumbers got)) r (now (out .entry)) (now (out .exit)) ⌝ }
 {
     match got {
         XyzAnswer::Value(n) => {
@@ -131,7 +131,7 @@ pub fn tell_xyz(got: XyzAnswer, out: &mut [u64]) -> u32
 
 // `cicp`: primaries, transfer, matrix, the flag of the full range.
 pub fn tell_cicp(got: CicpAnswer, out: &mut [u64]) -> u32
-    ensures { λ r. ⌜ Gave (smallTold (paperCicp got)) r (now (out .entry)) (now (out .exit)) ⌝ }
+    ensures { λ r. ⌜ Gave (smallExported (cicpInNumbers got)) r (now (out .entry)) (now (out .exit)) ⌝ }
 {
     match got {
         CicpAnswer::Value(c) => {

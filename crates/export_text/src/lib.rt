@@ -1,18 +1,18 @@
 // What is told of the answer of the reader of text.
+use export_words::ABSENT;
+use export_words::VALUE;
 use fields::Kind;
 use text_meaning::Description;
 use text_meaning::Range;
 use text_meaning::TextAnswer;
-use export_words::ABSENT;
-use export_words::VALUE;
 ghost use mathlib.Core.Path.{_≡_};
 ghost use mathlib.Core.List.{[], _∷_};
 ghost use lib.Seq.{sets};
 ghost use Rattle.fields.specs.Tag.{signatureOf};
 ghost use Rattle.fields.specs.declared.Kind.the-variants.{Text, Desc};
-ghost use Rattle.text_meaning.specs.Answer.{paper};
+ghost use Rattle.text_meaning.specs.Answer.{inNumbers};
 ghost use Rattle.export_words.specs.Told.{Gave};
-ghost use Rattle.export_text.specs.Layout.{textTold};
+ghost use Rattle.export_text.specs.Layout.{textExported};
 
 fn put_text(out: &mut [u64], r: Range)
     ensures { λ _. ⌜ now (out .exit) ≡ sets (now (out .entry)) 0 (signatureOf Text ∷ r .start .0 ∷ r .length ∷ []) ⌝ }
@@ -42,7 +42,7 @@ fn put_desc(out: &mut [u64], d: Description)
 
 // Of `text` 3 words, of `desc` 6, of `mluc` 2, in the order of specs/Layout.antt.
 pub fn tell_text(got: TextAnswer, out: &mut [u64]) -> u32
-    ensures { λ r. ⌜ Gave (textTold (paper got)) r (now (out .entry)) (now (out .exit)) ⌝ }
+    ensures { λ r. ⌜ Gave (textExported (inNumbers got)) r (now (out .entry)) (now (out .exit)) ⌝ }
 {
     match got {
         TextAnswer::Text(range) => {

@@ -3,7 +3,7 @@ use crate::NO_ROOM;
 use fields::Entry;
 ghost use Rattle.curve_meaning.specs.Curve.{trcOf};
 ghost use Rattle.export_words.specs.Told.{within, Gave};
-ghost use Rattle.export_curve.specs.Layout.{walkOf, curveTold};
+ghost use Rattle.export_curve.specs.Layout.{walkOf, curveExported};
 
 // The words of a curve's layout.
 const CURVE_WORDS: usize = 11;
@@ -19,7 +19,7 @@ pub extern "C" fn khalyksor_read_trc_tag(
     walk: u32,
     out: &mut [u64],
 ) -> u32
-    ensures { λ r. ⌜ Gave (within 11 (now (out .entry)) (curveTold (trcOf (walkOf walk) limit (now (profile .entry)) offset size))) r (now (out .entry)) (now (out .exit)) ⌝ }
+    ensures { λ r. ⌜ Gave (within 11 (now (out .entry)) (curveExported (trcOf (walkOf walk) limit (now (profile .entry)) offset size))) r (now (out .entry)) (now (out .exit)) ⌝ }
 {
     if out.len() < CURVE_WORDS {
         return NO_ROOM;

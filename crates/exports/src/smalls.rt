@@ -3,7 +3,7 @@ use crate::NO_ROOM;
 use fields::Entry;
 ghost use Rattle.small_meaning.specs.Small.{chadOf, sigOf, dateOf, measOf, viewOf, xyzOf, cicpOf};
 ghost use Rattle.export_words.specs.Told.{within, Gave};
-ghost use Rattle.export_small.specs.Layout.{smallTold};
+ghost use Rattle.export_small.specs.Layout.{smallExported};
 
 // small_chad::read_chad_tag. Nine words: the matrix, row by row.
 #[no_mangle]
@@ -13,7 +13,7 @@ pub extern "C" fn khalyksor_read_chad_tag(
     size: u32,
     out: &mut [u64],
 ) -> u32
-    ensures { λ r. ⌜ Gave (within 9 (now (out .entry)) (smallTold (chadOf (now (profile .entry)) offset size))) r (now (out .entry)) (now (out .exit)) ⌝ }
+    ensures { λ r. ⌜ Gave (within 9 (now (out .entry)) (smallExported (chadOf (now (profile .entry)) offset size))) r (now (out .entry)) (now (out .exit)) ⌝ }
 {
     if out.len() < 9 {
         return NO_ROOM;
@@ -30,7 +30,7 @@ pub extern "C" fn khalyksor_read_tech_tag(
     size: u32,
     out: &mut [u64],
 ) -> u32
-    ensures { λ r. ⌜ Gave (within 1 (now (out .entry)) (smallTold (sigOf (now (profile .entry)) offset size))) r (now (out .entry)) (now (out .exit)) ⌝ }
+    ensures { λ r. ⌜ Gave (within 1 (now (out .entry)) (smallExported (sigOf (now (profile .entry)) offset size))) r (now (out .entry)) (now (out .exit)) ⌝ }
 {
     if out.len() < 1 {
         return NO_ROOM;
@@ -47,7 +47,7 @@ pub extern "C" fn khalyksor_read_date_time_tag(
     size: u32,
     out: &mut [u64],
 ) -> u32
-    ensures { λ r. ⌜ Gave (within 12 (now (out .entry)) (smallTold (dateOf (now (profile .entry)) offset size))) r (now (out .entry)) (now (out .exit)) ⌝ }
+    ensures { λ r. ⌜ Gave (within 12 (now (out .entry)) (smallExported (dateOf (now (profile .entry)) offset size))) r (now (out .entry)) (now (out .exit)) ⌝ }
 {
     if out.len() < 12 {
         return NO_ROOM;
@@ -64,7 +64,7 @@ pub extern "C" fn khalyksor_read_meas_tag(
     size: u32,
     out: &mut [u64],
 ) -> u32
-    ensures { λ r. ⌜ Gave (within 7 (now (out .entry)) (smallTold (measOf (now (profile .entry)) offset size))) r (now (out .entry)) (now (out .exit)) ⌝ }
+    ensures { λ r. ⌜ Gave (within 7 (now (out .entry)) (smallExported (measOf (now (profile .entry)) offset size))) r (now (out .entry)) (now (out .exit)) ⌝ }
 {
     if out.len() < 7 {
         return NO_ROOM;
@@ -81,7 +81,7 @@ pub extern "C" fn khalyksor_read_viewing_conditions(
     size: u32,
     out: &mut [u64],
 ) -> u32
-    ensures { λ r. ⌜ Gave (within 7 (now (out .entry)) (smallTold (viewOf (now (profile .entry)) offset size))) r (now (out .entry)) (now (out .exit)) ⌝ }
+    ensures { λ r. ⌜ Gave (within 7 (now (out .entry)) (smallExported (viewOf (now (profile .entry)) offset size))) r (now (out .entry)) (now (out .exit)) ⌝ }
 {
     if out.len() < 7 {
         return NO_ROOM;
@@ -98,7 +98,7 @@ pub extern "C" fn khalyksor_read_xyz_tag(
     size: u32,
     out: &mut [u64],
 ) -> u32
-    ensures { λ r. ⌜ Gave (within 3 (now (out .entry)) (smallTold (xyzOf (now (profile .entry)) offset size))) r (now (out .entry)) (now (out .exit)) ⌝ }
+    ensures { λ r. ⌜ Gave (within 3 (now (out .entry)) (smallExported (xyzOf (now (profile .entry)) offset size))) r (now (out .entry)) (now (out .exit)) ⌝ }
 {
     if out.len() < 3 {
         return NO_ROOM;
@@ -115,7 +115,7 @@ pub extern "C" fn khalyksor_read_cicp_tag(
     size: u32,
     out: &mut [u64],
 ) -> u32
-    ensures { λ r. ⌜ Gave (within 4 (now (out .entry)) (smallTold (cicpOf (now (profile .entry)) offset size))) r (now (out .entry)) (now (out .exit)) ⌝ }
+    ensures { λ r. ⌜ Gave (within 4 (now (out .entry)) (smallExported (cicpOf (now (profile .entry)) offset size))) r (now (out .entry)) (now (out .exit)) ⌝ }
 {
     if out.len() < 4 {
         return NO_ROOM;

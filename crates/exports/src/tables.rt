@@ -5,10 +5,10 @@ use fields::InTag;
 use lut_view::TableNumbers;
 ghost use lib.ListN.{length};
 ghost use Rattle.export_curve.specs.Layout.{walkOf};
-ghost use Rattle.lut_meaning.specs.Lut.{lutOf, leftOf};
+ghost use Rattle.lut_meaning.specs.Lut.{lutOf, slotsAfter};
 ghost use Rattle.lut_view_meaning.specs.View.{entryOf, tableBy};
 ghost use Rattle.export_words.specs.Told.{within, Gave, GaveWith};
-ghost use Rattle.export_lut.specs.Layout.{lutTold, entryTold};
+ghost use Rattle.export_lut.specs.Layout.{lutExported, entryExported};
 ghost use Rattle.exports.specs.View.{numbersBy};
 
 // The words of the longest layout, that of `mAB ` and `mBA `.
@@ -30,7 +30,7 @@ pub extern "C" fn khalyksor_read_lut_tag(
     slots: &mut [u32],
     out: &mut [u64],
 ) -> u32
-    ensures { λ r. ⌜ GaveWith 37 (lutTold (lutOf (walkOf walk) limit points (now (profile .entry)) offset size (length (now (slots .entry))))) (leftOf (walkOf walk) limit points (now (profile .entry)) offset size (now (slots .entry))) r (now (out .entry)) (now (out .exit)) (now (slots .entry)) (now (slots .exit)) ⌝ }
+    ensures { λ r. ⌜ GaveWith 37 (lutExported (lutOf (walkOf walk) limit points (now (profile .entry)) offset size (length (now (slots .entry))))) (slotsAfter (walkOf walk) limit points (now (profile .entry)) offset size (now (slots .entry))) r (now (out .entry)) (now (out .exit)) (now (slots .entry)) (now (slots .exit)) ⌝ }
 {
     if out.len() < LUT_WORDS {
         return NO_ROOM;
@@ -63,7 +63,7 @@ pub extern "C" fn khalyksor_entry_at(
     channel: u8,
     out: &mut [u64],
 ) -> u32
-    ensures { λ r. ⌜ Gave (within 1 (now (out .entry)) (entryTold (entryOf (now (tag .entry)) (tableBy (now (tag .entry)) (numbersBy start size inputs outputs at step)) (now (index .entry)) channel))) r (now (out .entry)) (now (out .exit)) ⌝ }
+    ensures { λ r. ⌜ Gave (within 1 (now (out .entry)) (entryExported (entryOf (now (tag .entry)) (tableBy (now (tag .entry)) (numbersBy start size inputs outputs at step)) (now (index .entry)) channel))) r (now (out .entry)) (now (out .exit)) ⌝ }
 {
     if out.len() < 1 {
         return NO_ROOM;

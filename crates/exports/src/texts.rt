@@ -2,9 +2,9 @@
 use crate::NO_ROOM;
 use fields::Entry;
 ghost use lib.ListN.{length};
-ghost use Rattle.text_meaning.specs.Text.{stringOf, leftOf};
+ghost use Rattle.text_meaning.specs.Text.{stringOf, slotsAfter};
 ghost use Rattle.export_words.specs.Told.{GaveWith};
-ghost use Rattle.export_text.specs.Layout.{textTold};
+ghost use Rattle.export_text.specs.Layout.{textExported};
 
 // The words of the longest layout, that of `desc`.
 const TEXT_WORDS: usize = 6;
@@ -19,7 +19,7 @@ pub extern "C" fn khalyksor_read_string_tag(
     slots: &mut [u32],
     out: &mut [u64],
 ) -> u32
-    ensures { λ r. ⌜ GaveWith 6 (textTold (stringOf (now (profile .entry)) offset size (length (now (slots .entry))))) (leftOf (now (profile .entry)) offset size (now (slots .entry))) r (now (out .entry)) (now (out .exit)) (now (slots .entry)) (now (slots .exit)) ⌝ }
+    ensures { λ r. ⌜ GaveWith 6 (textExported (stringOf (now (profile .entry)) offset size (length (now (slots .entry))))) (slotsAfter (now (profile .entry)) offset size (now (slots .entry))) r (now (out .entry)) (now (out .exit)) (now (slots .entry)) (now (slots .exit)) ⌝ }
 {
     if out.len() < TEXT_WORDS {
         return NO_ROOM;

@@ -9,5 +9,6 @@ pub mod Numbers
 pub mod Stores
 pub mod Fills
 pub mod Once
+pub mod Never
 pub mod Putting
 pub mod Written

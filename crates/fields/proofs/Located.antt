@@ -10,6 +10,7 @@ use lib.ListN.{length, take, drop, length-take, length-drop}
 use lib.Seq.{take-all}
 use lib.Dec.{leb}
 use borrow.Author.Tests.{leb-true, leb-false, le-leb, lt-leb}
+use Rattle.fields.proofs.Never.{never}
 use Rattle.fields.specs.Place.{placeOf}
 use Rattle.fields.specs.declared.Place.{Place}
 use Rattle.fields.specs.declared.Place.the-variants.{In, Past}
@@ -29,14 +30,14 @@ pub record Inside (n entry end from to : ℕ) : Type 0 where
 
 in-by : (n entry end from to : ℕ) (t : Bool) → leb (entry + end) n ≡ t → cond t (In entry (entry + end)) Past ≡ In from to → Inside n entry end from to
 in-by n entry end from to true h e = record { from-is = cc; to-is = cc; fits = leb-true _ _ h }
-in-by n entry end from to false h e = let z : _≡_ {A = ℕ} 0 1 = cc in absurd (omega arith)
+in-by n entry end from to false h e = never cc
 
 pub inside : (n entry end : ℕ) {from to : ℕ} {r : Place} → r ≡ placeOf n entry end → r ≡ In from to → Inside n entry end from to
 unfolding placeOf
 inside n entry end {from} {to} h e = in-by n entry end from to (leb (entry + end) n) refl (sym h ∙ e)
 
 past-by : (n entry end : ℕ) (t : Bool) → leb (entry + end) n ≡ t → cond t (In entry (entry + end)) Past ≡ Past → n < entry + end
-past-by n entry end true h e = let z : _≡_ {A = ℕ} 0 1 = cc in absurd (omega arith)
+past-by n entry end true h e = never cc
 past-by n entry end false h e = leb-false _ _ h
 
 pub past : (n entry end : ℕ) {r : Place} → r ≡ placeOf n entry end → r ≡ Past → n < entry + end

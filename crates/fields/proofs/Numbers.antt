@@ -4,7 +4,7 @@ use Prim.Native.Nat.{ℕ}
 use mathlib.Core.Path.{_≡_, refl, sym, ap, _∙_}
 use mathlib.Core.Bool.{cond}
 use lib.Dec.{eqb}
-use Rattle.fields.specs.Refusals.{numberOf}
+use Rattle.fields.specs.Refusals.{refusalNumber}
 use Rattle.fields.specs.declared.Refusal.{Refusal}
 use Rattle.fields.specs.declared.Refusal.the-variants.{PastProfile, TagTooShort, OtherLut, GridOverflow, GridZero, GridTooLarge, GridDimension, EntrySize, OtherCurve, TooManyEntries, CurveRunsOut, FunctionType, ZeroDivision, TooFewSlots, BadTable, GridOverLimit, BadChad, LastPoint}
 
@@ -29,7 +29,7 @@ nameOf n =
     cond (eqb n 16) GridOverLimit (
     cond (eqb n 17) BadChad (LastPoint)))))))))))))))))
 
-pub named : (r : Refusal) → nameOf (numberOf r) ≡ r
+pub named : (r : Refusal) → nameOf (refusalNumber r) ≡ r
 named PastProfile = refl
 named TagTooShort = refl
 named OtherLut = refl
@@ -49,5 +49,5 @@ named GridOverLimit = refl
 named BadChad = refl
 named LastPoint = refl
 
-pub injective : (r s : Refusal) → numberOf r ≡ numberOf s → r ≡ s
+pub injective : (r s : Refusal) → refusalNumber r ≡ refusalNumber s → r ≡ s
 injective r s h = sym (named r) ∙ ap nameOf h ∙ named s

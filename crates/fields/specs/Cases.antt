@@ -6,7 +6,7 @@ use lib.IntN.{ℤ, pos, negsuc}
 use Rattle.fields.specs.Bytes.{number, u16At, u32At, bytesAt, wordsAt, signed}
 use Rattle.fields.specs.House.{houseLimits}
 use Rattle.fields.specs.Place.{placeOf, tagAt, countedSize}
-use Rattle.fields.specs.Refusals.{numberOf}
+use Rattle.fields.specs.Refusals.{refusalNumber}
 use Rattle.fields.specs.Tag.{signatureOf, kindOf}
 use Rattle.fields.specs.declared.Kind.{Kind}
 use Rattle.fields.specs.declared.Kind.the-variants.{Curv, Para, Mft1, Mft2, Mab, Mba, Mluc, Desc, Text, Xyz, Sf32, Meas, View, Cicp, Sig, Dtim, Other}
@@ -50,7 +50,7 @@ Holds (names a b c d k) = (kindOf (number a b c d) ≡ k) × (number a b c d ≡
 Holds (lies n entry end p) = placeOf n entry end ≡ p
 Holds (holds entry end ns) = tagAt five entry end ≡ ns
 Holds (counts size n) = countedSize size ≡ n
-Holds (numbers rs ns) = map numberOf rs ≡ ns
+Holds (numbers rs ns) = map refusalNumber rs ≡ ns
 Holds (defaults l) = houseLimits ≡ l
 
 unfoldable pub All : List Case → Type 0

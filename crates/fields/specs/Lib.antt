@@ -2,5 +2,6 @@ pub mod Bytes
 pub mod Tag
 pub mod Place
 pub mod Refusals
+pub mod Checked
 pub mod House
 pub mod Cases

@@ -6,7 +6,7 @@ ghost use lib.ListN.{length, getD};
 ghost use Rattle.fields.specs.Bytes.{number, u16At, u32At, wordsAt};
 ghost use Rattle.fields.specs.House.{houseLimits};
 ghost use Rattle.fields.specs.Place.{placeOf, countedSize};
-ghost use Rattle.fields.specs.Refusals.{numberOf};
+ghost use Rattle.fields.specs.Refusals.{refusalNumber};
 ghost use Rattle.fields.specs.Tag.{kindOf};
 
 // The shortest tag: a type signature, four reserved bytes and four more. The Rust's TAG_SIZE.
@@ -55,7 +55,7 @@ pub enum Refusal {
 impl Refusal {
     // The number by which users know a refusal.
     pub fn number(self) -> u32
-        ensures { λ r. ⌜ r ≡ numberOf self ⌝ }
+        ensures { λ r. ⌜ r ≡ refusalNumber self ⌝ }
     {
         match self {
             Refusal::PastProfile => 1,

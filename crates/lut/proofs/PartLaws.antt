@@ -13,6 +13,8 @@ use types.Run.{OneOf}
 use denote.Enum.Declared.{tagOf as placeIn}
 use borrow.Author.Tests.{eq-eqb, ne-eqb, lt-ltb, le-ltb, eqb-true}
 use borrow.Rule.Slice.PartMut.{putMid}
+use Rattle.fields.proofs.Never.{never}
+use Rattle.fields.specs.Checked.{Checked, good, bad}
 use Rattle.fields.specs.Bytes.{u32At, bytesAt, wordsAt}
 use Rattle.fields.proofs.Choice.{first-holds, second-holds}
 use Rattle.fields.proofs.Stores.{sets-append, front, rejoined}
@@ -20,10 +22,10 @@ use Rattle.curve_meaning.specs.Shape.{recordWords}
 use Rattle.curve_meaning.specs.declared.Walk.{Walk}
 use Rattle.lut_run_meaning.specs.Run.{runAt, recordsOf}
 use Rattle.lut_meaning.specs.Layout.{toPcs, deviceChannels, spaceChannels, present, Few, aCurves, mCurves, bCurves, planOf, Planned, identity, matrixOf, biasOf, gridOf}
-use Rattle.lut_meaning.specs.Parts.{runA, runM, runB, runsJudged, curvesOf, matrixJudged}
-use Rattle.lut_meaning.specs.Judged.{Judged, good, bad, ended, andThen}
+use Rattle.lut_meaning.specs.Parts.{runA, runM, runB, runsChecked, curvesOf, matrixChecked}
+use Rattle.lut_meaning.specs.Checks.{ended, andThen}
 use Rattle.lut.specs.Grid.{GridInside}
-use Rattle.lut.specs.Verdict.{judgedFrom}
+use Rattle.lut.specs.Verdict.{verdictInNumbers}
 use Rattle.lut_meaning.specs.declared.Plan.{Plan}
 use Rattle.lut_meaning.proofs.Shared.{a-whole, m-whole, b-whole, records-of, all-records}
 use Rattle.lut.specs.declared.nested.Verdict.{Verdict}
@@ -82,16 +84,16 @@ planned t p ea fa em fm eb fb =
 -- ---- the matrix
 
 module _ (t : List ℕ) (at : ℕ) (h : at ≡ u32At t 16) where
-  pub matrix-none : at ≡ 0 → good ≡ matrixJudged t
-  unfolding matrixJudged
+  pub matrix-none : at ≡ 0 → good tt ≡ matrixChecked t
+  unfolding matrixChecked
   matrix-none e = simp (← h, eq-eqb _ _ e)
 
-  pub matrix-past : (at ≡ 0 → ⊥) → length t < at + 48 → bad 2 ≡ matrixJudged t
-  unfolding matrixJudged
+  pub matrix-past : (at ≡ 0 → ⊥) → length t < at + 48 → bad 2 ≡ matrixChecked t
+  unfolding matrixChecked
   matrix-past e l = simp (← h, ne-eqb _ _ e, lt-ltb _ _ l)
 
-  pub matrix-there : (at ≡ 0 → ⊥) → at + 48 ≤ length t → good ≡ matrixJudged t
-  unfolding matrixJudged
+  pub matrix-there : (at ≡ 0 → ⊥) → at + 48 ≤ length t → good tt ≡ matrixChecked t
+  unfolding matrixChecked
   matrix-there e l = simp (← h, ne-eqb _ _ e, le-ltb _ _ l)
 
 pub ruleset matrix-laws = (matrix-none, matrix-past, matrix-there)
@@ -99,27 +101,27 @@ pub ruleset matrix-laws = (matrix-none, matrix-past, matrix-there)
 -- ---- the runs, judged
 
 -- a verdict that is not good
-stop-here : (v : Verdict) (j next : Judged) → OneOf (1 ∷ []) (placeIn verdicts.the-type v) → judgedFrom v ≡ j → judgedFrom v ≡ andThen j next
+stop-here : (v : Verdict) (j next : Checked Unit) → OneOf (1 ∷ []) (placeIn verdicts.the-type v) → verdictInNumbers v ≡ j → verdictInNumbers v ≡ andThen j next
 stop-here Verdict.Good j next o h = absurd (omega arith)
-stop-here (Verdict.Refused why) good next o h = let z : _≡_ {A = ℕ} 0 1 = cc in absurd (omega arith)
+stop-here (Verdict.Refused why) (good _) next o h = never cc
 stop-here (Verdict.Refused why) (bad n) next o h = h
 
-pass-here : (v : Verdict) (j next : Judged) → v ≡ Verdict.Good → judgedFrom v ≡ j → next ≡ andThen j next
-pass-here v good next e h = refl
-pass-here v (bad n) next e h = let z : _≡_ {A = ℕ} 0 1 = cc in absurd (omega arith)
+pass-here : (v : Verdict) (j next : Checked Unit) → v ≡ Verdict.Good → verdictInNumbers v ≡ j → next ≡ andThen j next
+pass-here v (good _) next e h = refl
+pass-here v (bad n) next e h = never cc
 
-module _ (walk : Walk) (limit : ℕ) (t : List ℕ) (p : Plan) (v : Verdict) (ja : judgedFrom v ≡ ended (runA walk limit t p .end)) where
-  pub runs-a : OneOf (1 ∷ []) (placeIn verdicts.the-type v) → judgedFrom v ≡ runsJudged walk limit t p
-  unfolding runsJudged
+module _ (walk : Walk) (limit : ℕ) (t : List ℕ) (p : Plan) (v : Verdict) (ja : verdictInNumbers v ≡ ended (runA walk limit t p .end)) where
+  pub runs-a : OneOf (1 ∷ []) (placeIn verdicts.the-type v) → verdictInNumbers v ≡ runsChecked walk limit t p
+  unfolding runsChecked
   runs-a o = stop-here v _ _ o ja
 
-  module _ (g : v ≡ Verdict.Good) (w : Verdict) (jm : judgedFrom w ≡ ended (runM walk limit t p .end)) where
-    pub runs-m : OneOf (1 ∷ []) (placeIn verdicts.the-type w) → judgedFrom w ≡ runsJudged walk limit t p
-    unfolding runsJudged
+  module _ (g : v ≡ Verdict.Good) (w : Verdict) (jm : verdictInNumbers w ≡ ended (runM walk limit t p .end)) where
+    pub runs-m : OneOf (1 ∷ []) (placeIn verdicts.the-type w) → verdictInNumbers w ≡ runsChecked walk limit t p
+    unfolding runsChecked
     runs-m o = stop-here w _ _ o jm ∙ pass-here v _ _ g ja
 
-    pub runs-b : (x : Verdict) → w ≡ Verdict.Good → judgedFrom x ≡ ended (runB walk limit t p .end) → judgedFrom x ≡ runsJudged walk limit t p
-    unfolding runsJudged
+    pub runs-b : (x : Verdict) → w ≡ Verdict.Good → verdictInNumbers x ≡ ended (runB walk limit t p .end) → verdictInNumbers x ≡ runsChecked walk limit t p
+    unfolding runsChecked
     runs-b x e jb = jb ∙ pass-here w _ _ e jm ∙ pass-here v _ _ g ja
 
 pub ruleset runs-laws = (runs-a, runs-m, runs-b)
@@ -140,8 +142,8 @@ module _ (walk : Walk) (limit : ℕ) (t : List ℕ) (p : Plan) (b : Bool) (h : b
   m-none : p .nm ≡ 0
   m-none = eqb-true _ _ (second-holds (eqb (p .na) 0) (eqb (p .nm) 0) (sym h ∙ e))
 
-  pub alone-judged : (v : Verdict) → judgedFrom v ≡ ended (runB walk limit t p .end) → judgedFrom v ≡ runsJudged walk limit t p
-  unfolding runsJudged runAt ended
+  pub alone-judged : (v : Verdict) → verdictInNumbers v ≡ ended (runB walk limit t p .end) → verdictInNumbers v ≡ runsChecked walk limit t p
+  unfolding runsChecked runAt ended
   alone-judged v j = rw (a-none, m-none) j
 
   pub alone-room : (s : List ℕ) → (p .na + p .nm + p .nb) * recordWords ≤ length s → p .nb * recordWords ≤ length s
@@ -153,7 +155,7 @@ module _ (walk : Walk) (limit : ℕ) (t : List ℕ) (p : Plan) (b : Bool) (h : b
 
 -- ---- the runs, written
 
-module _ (walk : Walk) (limit : ℕ) (t : List ℕ) (p : Plan) (h : runsJudged walk limit t p ≡ good) where
+module _ (walk : Walk) (limit : ℕ) (t : List ℕ) (p : Plan) (h : runsChecked walk limit t p ≡ good tt) where
   -- each run is written in front of its part: s₁, s₂ are the slots between the calls, and y₂, y₃ what the calls left of the parts
   pub runs-written : (s₀ : List ℕ) → (p .na + p .nm + p .nb) * recordWords ≤ length s₀
       → (s₁ : List ℕ) → s₁ ≡ recordsOf (runA walk limit t p .curves) ++ drop (p .na * recordWords) s₀

@@ -3,12 +3,12 @@ use crate::answer;
 use crate::nested;
 use crate::nested::RECORD_WORDS;
 use crate::nested::Verdict;
-use lut_clut_meaning::ClutAnswer;
-use lut_clut_meaning::ColourTable;
 use curve::Walk;
 use fields::InTag;
 use fields::Kind;
 use fields::Refusal;
+use lut_clut_meaning::ClutAnswer;
+use lut_clut_meaning::ColourTable;
 use lut_meaning::AbmTable;
 use lut_meaning::Lut;
 use lut_meaning::LutAnswer;
@@ -19,18 +19,18 @@ ghost use mathlib.Core.List.{_++_};
 ghost use Prim.Native.Nat.{_+_, _*_, _^_, _≤_, _<_};
 ghost use lib.Dec.{ltb, eqb};
 ghost use lib.ListN.{length, drop};
-ghost use Rattle.lut_clut_meaning.specs.Answer.{paper as Clut·paper, toldOf};
+ghost use Rattle.fields.specs.Checked.{good};
+ghost use Rattle.lut_clut_meaning.specs.Answer.{inNumbers as Clut·inNumbers, answerOf};
 ghost use Rattle.fields.specs.Bytes.{bytesAt};
 ghost use Rattle.curve_meaning.specs.Shape.{recordWords};
 ghost use Rattle.lut_run_meaning.specs.Run.{recordsOf};
-ghost use Rattle.lut_meaning.specs.Abm.{tableOf, valueFrom, recordedOf, judgedOf, withTable, abmOf};
-ghost use Rattle.lut_meaning.specs.Lut.{Said};
-ghost use Rattle.lut_meaning.specs.Parts.{runsJudged, curvesOf, matrixJudged};
-ghost use Rattle.lut_meaning.specs.Answer.{paper};
+ghost use Rattle.lut_meaning.specs.Abm.{colourTableOf, valueFrom, recordedOf, checkedOf, withTable, abmOf};
+ghost use Rattle.lut_meaning.specs.Lut.{AnswerAndSlots};
+ghost use Rattle.lut_meaning.specs.Parts.{runsChecked, curvesOf, matrixChecked};
+ghost use Rattle.lut_meaning.specs.Answer.{inNumbers};
 ghost use Rattle.lut_meaning.specs.Layout.{toPcs, inputs, outputs, deviceChannels, spaceChannels, Few, present, aCurves, mCurves, bCurves, Planned, gridOf, matrixOf, biasOf};
-ghost use Rattle.lut_meaning.specs.Judged.{good};
 ghost use Rattle.lut.specs.Grid.{GridInside};
-ghost use Rattle.lut.specs.Verdict.{judgedFrom};
+ghost use Rattle.lut.specs.Verdict.{verdictInNumbers};
 
 // Whether the tag leads towards the connection space.
 fn to_pcs(tag: &[u8]) -> bool
@@ -108,7 +108,7 @@ fn find_runs(tag: &[u8]) -> Plan
 // Judges the three runs in order.
 fn check_runs(tag: &[u8], p: Plan, limit: u64, walk: Walk) -> Verdict
     requires { ⌜ length (now tag) < 2 ^ 32 ⌝ }
-    ensures { λ r. ⌜ judgedFrom r ≡ runsJudged walk limit (now (tag .entry)) p ⌝ }
+    ensures { λ r. ⌜ verdictInNumbers r ≡ runsChecked walk limit (now (tag .entry)) p ⌝ }
 {
     let a_at = p.a;
     let a = nested::check_run(tag, a_at, p.na, limit, walk);
@@ -126,7 +126,7 @@ fn check_runs(tag: &[u8], p: Plan, limit: u64, walk: Walk) -> Verdict
 
 // Writes the records of the three runs, which were judged good: each from the slot where the one before ended.
 fn write_runs(tag: &[u8], p: Plan, limit: u64, walk: Walk, slots: &mut [u32])
-    requires { ⌜ (length (now tag) < 2 ^ 32) × (runsJudged walk limit (now tag) p ≡ good) × ((p .na + p .nm + p .nb) * recordWords ≤ length (now slots)) ⌝ }
+    requires { ⌜ (length (now tag) < 2 ^ 32) × (runsChecked walk limit (now tag) p ≡ good tt) × ((p .na + p .nm + p .nb) * recordWords ≤ length (now slots)) ⌝ }
     ensures { λ _. ⌜ now (slots .exit) ≡ recordsOf (curvesOf walk limit (now (tag .entry)) p) ++ drop ((p .na + p .nm + p .nb) * recordWords) (now (slots .entry)) ⌝ }
 {
     let na = p.na as usize;
@@ -154,7 +154,7 @@ fn has_b_alone(p: Plan) -> bool
 // Judges the runs. Many tags have curves B alone, and then there is one run to walk.
 fn judge_runs(tag: &[u8], p: Plan, limit: u64, walk: Walk) -> Verdict
     requires { ⌜ length (now tag) < 2 ^ 32 ⌝ }
-    ensures { λ r. ⌜ judgedFrom r ≡ runsJudged walk limit (now (tag .entry)) p ⌝ }
+    ensures { λ r. ⌜ verdictInNumbers r ≡ runsChecked walk limit (now (tag .entry)) p ⌝ }
 {
     if has_b_alone(p) {
         let at = p.b;
@@ -165,7 +165,7 @@ fn judge_runs(tag: &[u8], p: Plan, limit: u64, walk: Walk) -> Verdict
 
 // Writes the records of the runs, which were judged good.
 fn record_runs(tag: &[u8], p: Plan, limit: u64, walk: Walk, slots: &mut [u32])
-    requires { ⌜ (length (now tag) < 2 ^ 32) × (runsJudged walk limit (now tag) p ≡ good) × ((p .na + p .nm + p .nb) * recordWords ≤ length (now slots)) ⌝ }
+    requires { ⌜ (length (now tag) < 2 ^ 32) × (runsChecked walk limit (now tag) p ≡ good tt) × ((p .na + p .nm + p .nb) * recordWords ≤ length (now slots)) ⌝ }
     ensures { λ _. ⌜ now (slots .exit) ≡ recordsOf (curvesOf walk limit (now (tag .entry)) p) ++ drop ((p .na + p .nm + p .nb) * recordWords) (now (slots .entry)) ⌝ }
 {
     if has_b_alone(p) {
@@ -178,7 +178,7 @@ fn record_runs(tag: &[u8], p: Plan, limit: u64, walk: Walk, slots: &mut [u32])
 
 // A matrix has 48 bytes.
 fn check_matrix(tag: &[u8]) -> Verdict
-    ensures { λ r. ⌜ judgedFrom r ≡ matrixJudged (now (tag .entry)) ⌝ }
+    ensures { λ r. ⌜ verdictInNumbers r ≡ matrixChecked (now (tag .entry)) ⌝ }
 {
     let at = fields::u32_at(tag, InTag(16));
     if at == 0 {
@@ -192,7 +192,7 @@ fn check_matrix(tag: &[u8]) -> Verdict
 
 // The colour table; one that is not there has no data, at 0.
 fn find_table(tag: &[u8]) -> ClutAnswer
-    ensures { λ r. ⌜ Clut·paper r ≡ toldOf (tableOf (now (tag .entry))) ⌝ }
+    ensures { λ r. ⌜ Clut·inNumbers r ≡ answerOf (colourTableOf (now (tag .entry))) ⌝ }
 {
     let at = fields::u32_at(tag, InTag(24));
     if at == 0 {
@@ -261,7 +261,7 @@ fn grid(tag: &[u8]) -> [u8; 16]
 // The answer for a tag that is good, with its runs and its colour table.
 fn value(tag: &[u8], p: Plan, table: ColourTable) -> Lut
     requires { ⌜ Planned (now tag) p × GridInside (now tag) ⌝ }
-    ensures { λ r. ⌜ paper r ≡ valueFrom (now (tag .entry)) (table .start .0) (table .length) (table .«entry_size») ⌝ }
+    ensures { λ r. ⌜ inNumbers r ≡ valueFrom (now (tag .entry)) (table .start .0) (table .length) (table .«entry_size») ⌝ }
 {
     let start = table.start;
     let answer = LutAnswer::Abm(AbmTable {
@@ -305,8 +305,8 @@ fn write_records(
     walk: Walk,
     slots: &mut [u32],
 ) -> Lut
-    requires { ⌜ (length (now tag) < 2 ^ 32) × Planned (now tag) p × (runsJudged walk limit (now tag) p ≡ good) × GridInside (now tag) ⌝ }
-    ensures { λ r. ⌜ Said walk limit (now (tag .entry)) (recordedOf (now (tag .entry)) (length (now (slots .entry))) (table .start .0) (table .length) (table .«entry_size»)) r (now (slots .entry)) (now (slots .exit)) ⌝ }
+    requires { ⌜ (length (now tag) < 2 ^ 32) × Planned (now tag) p × (runsChecked walk limit (now tag) p ≡ good tt) × GridInside (now tag) ⌝ }
+    ensures { λ r. ⌜ AnswerAndSlots walk limit (now (tag .entry)) (recordedOf (now (tag .entry)) (length (now (slots .entry))) (table .start .0) (table .length) (table .«entry_size»)) r (now (slots .entry)) (now (slots .exit)) ⌝ }
 {
     let needed = p.na + p.nm + p.nb;
     if slots.len() / RECORD_WORDS < needed as usize {
@@ -319,7 +319,7 @@ fn write_records(
 // Judges the runs of a tag whose colour table is good, and goes on.
 fn read_runs(tag: &[u8], table: ColourTable, limit: u64, walk: Walk, slots: &mut [u32]) -> Lut
     requires { ⌜ (length (now tag) < 2 ^ 32) × GridInside (now tag) ⌝ }
-    ensures { λ r. ⌜ Said walk limit (now (tag .entry)) (judgedOf walk limit (now (tag .entry)) (length (now (slots .entry))) (table .start .0) (table .length) (table .«entry_size»)) r (now (slots .entry)) (now (slots .exit)) ⌝ }
+    ensures { λ r. ⌜ AnswerAndSlots walk limit (now (tag .entry)) (checkedOf walk limit (now (tag .entry)) (length (now (slots .entry))) (table .start .0) (table .length) (table .«entry_size»)) r (now (slots .entry)) (now (slots .exit)) ⌝ }
 {
     let p = find_runs(tag);
     let judged = judge_runs(tag, p, limit, walk);
@@ -332,7 +332,7 @@ fn read_runs(tag: &[u8], table: ColourTable, limit: u64, walk: Walk, slots: &mut
 // Judges the colour table of a tag whose matrix is good, and goes on.
 fn read_parts(tag: &[u8], limit: u64, walk: Walk, slots: &mut [u32]) -> Lut
     requires { ⌜ length (now tag) < 2 ^ 32 ⌝ }
-    ensures { λ r. ⌜ Said walk limit (now (tag .entry)) (withTable walk limit (now (tag .entry)) (length (now (slots .entry))) (tableOf (now (tag .entry)))) r (now (slots .entry)) (now (slots .exit)) ⌝ }
+    ensures { λ r. ⌜ AnswerAndSlots walk limit (now (tag .entry)) (withTable walk limit (now (tag .entry)) (length (now (slots .entry))) (colourTableOf (now (tag .entry)))) r (now (slots .entry)) (now (slots .exit)) ⌝ }
 {
     let found = find_table(tag);
     match found {
@@ -344,7 +344,7 @@ fn read_parts(tag: &[u8], limit: u64, walk: Walk, slots: &mut [u32]) -> Lut
 // A tag of 48 bytes or more, of either type.
 pub(crate) fn read_lut_abm_type(tag: &[u8], limit: u64, walk: Walk, slots: &mut [u32]) -> Lut
     requires { ⌜ length (now tag) < 2 ^ 32 ⌝ }
-    ensures { λ r. ⌜ Said walk limit (now (tag .entry)) (abmOf walk limit (now (tag .entry)) (length (now (slots .entry)))) r (now (slots .entry)) (now (slots .exit)) ⌝ }
+    ensures { λ r. ⌜ AnswerAndSlots walk limit (now (tag .entry)) (abmOf walk limit (now (tag .entry)) (length (now (slots .entry)))) r (now (slots .entry)) (now (slots .exit)) ⌝ }
 {
     if too_many_channels(tag) {
         return answer::absent();

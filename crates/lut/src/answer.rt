@@ -5,12 +5,12 @@ use lut_meaning::LutAnswer;
 use lut_mft_meaning::Mft;
 use lut_mft_meaning::MftAnswer;
 ghost use mathlib.Core.Path.{_≡_};
-ghost use Rattle.fields.specs.Refusals.{numberOf};
-ghost use Rattle.lut_mft_meaning.specs.Answer.{paper as Mft·paper};
-ghost use Rattle.lut_meaning.specs.Answer.{none, refuse, fromMft, paper};
+ghost use Rattle.fields.specs.Refusals.{refusalNumber};
+ghost use Rattle.lut_mft_meaning.specs.Answer.{inNumbers as Mft·inNumbers};
+ghost use Rattle.lut_meaning.specs.Answer.{none, refuse, fromMft, inNumbers};
 
 pub(crate) fn absent() -> Lut
-    ensures { λ r. ⌜ paper r ≡ none ⌝ }
+    ensures { λ r. ⌜ inNumbers r ≡ none ⌝ }
 {
     Lut {
         answer: LutAnswer::Absent,
@@ -21,7 +21,7 @@ pub(crate) fn absent() -> Lut
 }
 
 pub(crate) fn refused(why: Refusal) -> Lut
-    ensures { λ r. ⌜ paper r ≡ refuse (numberOf why) ⌝ }
+    ensures { λ r. ⌜ inNumbers r ≡ refuse (refusalNumber why) ⌝ }
 {
     Lut {
         answer: LutAnswer::Refused(why),
@@ -33,7 +33,7 @@ pub(crate) fn refused(why: Refusal) -> Lut
 
 // What is answered of `mft1` and `mft2`, which have no sixteen grid bytes and no bias.
 pub(crate) fn from_mft(got: Mft) -> Lut
-    ensures { λ r. ⌜ paper r ≡ fromMft (Mft·paper got) ⌝ }
+    ensures { λ r. ⌜ inNumbers r ≡ fromMft (Mft·inNumbers got) ⌝ }
 {
     let read = got.answer;
     let matrix = got.matrix;

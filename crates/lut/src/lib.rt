@@ -16,7 +16,7 @@ pub use nested::RECORD_WORDS;
 ghost use mathlib.Core.Path.{_≡_};
 ghost use lib.ListN.{length};
 ghost use Prim.Native.Nat.{_^_, _<_};
-ghost use Rattle.lut_meaning.specs.Lut.{Said, tagOf, isAbm, byType, lutOf};
+ghost use Rattle.lut_meaning.specs.Lut.{AnswerAndSlots, tagOf, isAbm, byType, lutOf};
 
 // Whether the tag is `mAB ` or `mBA `.
 fn is_abm(tag: &[u8]) -> bool
@@ -32,7 +32,7 @@ fn is_abm(tag: &[u8]) -> bool
 // By the type of the tag.
 fn read_kind(tag: &[u8], limit: u64, points: u64, walk: Walk, slots: &mut [u32]) -> Lut
     requires { ⌜ length (now tag) < 2 ^ 32 ⌝ }
-    ensures { λ r. ⌜ Said walk limit (now (tag .entry)) (byType walk limit points (now (tag .entry)) (length (now (slots .entry)))) r (now (slots .entry)) (now (slots .exit)) ⌝ }
+    ensures { λ r. ⌜ AnswerAndSlots walk limit (now (tag .entry)) (byType walk limit points (now (tag .entry)) (length (now (slots .entry)))) r (now (slots .entry)) (now (slots .exit)) ⌝ }
 {
     if lut_mft::is_mft(tag) {
         return answer::from_mft(lut_mft::read_lut_a_to_b_type(tag, points));
@@ -55,7 +55,7 @@ pub fn read_lut_tag(
     walk: Walk,
     slots: &mut [u32],
 ) -> Lut
-    ensures { λ r. ⌜ Said walk limit (tagOf (now (profile .entry)) (entry .0) size) (lutOf walk limit points (now (profile .entry)) (entry .0) size (length (now (slots .entry)))) r (now (slots .entry)) (now (slots .exit)) ⌝ }
+    ensures { λ r. ⌜ AnswerAndSlots walk limit (tagOf (now (profile .entry)) (entry .0) size) (lutOf walk limit points (now (profile .entry)) (entry .0) size (length (now (slots .entry)))) r (now (slots .entry)) (now (slots .exit)) ⌝ }
 {
     let end = fields::counted_size(size);
     let place = fields::locate(profile, entry, InTag(end as u64));

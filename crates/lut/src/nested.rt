@@ -8,11 +8,11 @@ ghost use mathlib.Core.Path.{_≡_};
 ghost use mathlib.Core.List.{_++_};
 ghost use Prim.Native.Nat.{_+_, _*_, _^_, _≤_, _<_};
 ghost use lib.ListN.{length, drop};
-ghost use Rattle.curve_meaning.specs.Answer.{goingFrom, goingOf};
+ghost use Rattle.curve_meaning.specs.Answer.{stepInNumbers, stepChecked};
 ghost use Rattle.curve_meaning.specs.Shape.{recordWords};
-ghost use Rattle.lut_run_meaning.specs.Run.{whole, raised, entryAt, runAt, recordsOf};
-ghost use Rattle.lut_meaning.specs.Judged.{ended};
-ghost use Rattle.lut.specs.Verdict.{judgedFrom, stepJudged};
+ghost use Rattle.lut_run_meaning.specs.Run.{whole, aligned, curveAtOffset, runAt, recordsOf};
+ghost use Rattle.lut_meaning.specs.Checks.{ended};
+ghost use Rattle.lut.specs.Verdict.{verdictInNumbers, stepVerdict};
 
 pub(crate) enum Verdict {
     Good,
@@ -21,7 +21,7 @@ pub(crate) enum Verdict {
 
 // The curve at an offset of the tag; past the tag is 2.
 fn judge_at(tag: &[u8], at: InTag, limit: u64, walk: Walk) -> Step
-    ensures { λ r. ⌜ goingFrom r ≡ goingOf walk (entryAt limit (now (tag .entry)) (at .0)) ⌝ }
+    ensures { λ r. ⌜ stepInNumbers r ≡ stepChecked walk (curveAtOffset limit (now (tag .entry)) (at .0)) ⌝ }
 {
     let from = at.0 as usize;
     if tag.len() < from {
@@ -36,14 +36,14 @@ fn judge_at(tag: &[u8], at: InTag, limit: u64, walk: Walk) -> Step
 // Where the next curve starts.
 fn next_curve(at: InTag, consumed: u64) -> InTag
     requires { ⌜ at .0 + consumed < 2 ^ 33 ⌝ }
-    ensures { λ r. ⌜ r .0 ≡ raised (at .0 + consumed) ⌝ }
+    ensures { λ r. ⌜ r .0 ≡ aligned (at .0 + consumed) ⌝ }
 {
     InTag((at.0 + consumed + 3) / 4 * 4)
 }
 
 // What a step says of its run: a refusal ends it.
 fn stopped(got: Step) -> Verdict
-    ensures { λ r. ⌜ judgedFrom r ≡ stepJudged (goingFrom got) ⌝ }
+    ensures { λ r. ⌜ verdictInNumbers r ≡ stepVerdict (stepInNumbers got) ⌝ }
 {
     match got {
         Step::Refused(why) => Verdict::Refused(why),
@@ -54,7 +54,7 @@ fn stopped(got: Step) -> Verdict
 // Judges a run of n curves from an offset on, and writes nothing.
 pub(crate) fn check_run(tag: &[u8], at: InTag, n: u32, limit: u64, walk: Walk) -> Verdict
     requires { ⌜ length (now tag) < 2 ^ 32 ⌝ }
-    ensures { λ r. ⌜ judgedFrom r ≡ ended (runAt walk limit (now (tag .entry)) (at .0) n .end) ⌝ }
+    ensures { λ r. ⌜ verdictInNumbers r ≡ ended (runAt walk limit (now (tag .entry)) (at .0) n .end) ⌝ }
 {
     let mut next = at;
     let mut i: u32 = 0;

@@ -17,7 +17,7 @@ use Rattle.fields.proofs.Choice.{each}
 use Rattle.fields.proofs.Located.{part-is}
 use Rattle.lut_clut_meaning.specs.Clut.{some, isOver, isFlat, partials, overflows, mostEntries, gridAt, tableAt, shapeOf, clutOf}
 use Rattle.lut_clut_meaning.specs.Table.{product, lastOf}
-use Rattle.lut_clut_meaning.specs.Answer.{Told, value, refused, toldOf}
+use Rattle.lut_clut_meaning.specs.Answer.{Answer, value, refused, answerOf}
 use Rattle.lut_clut_meaning.proofs.Grid.{factors, last-is}
 use Rattle.lut_clut.specs.Counts.{countsOf, Counted}
 use Rattle.lut_clut.specs.declared.Counts.{Counts}
@@ -97,36 +97,36 @@ module _ (t grid : List ℕ) (at outputs points entries : ℕ) (known : Counted 
   length-fits s n e l = let f = known .few in record { fits = omega (arith, e, mul-le-mul f l) }
 
   module _ (flat : Bool) (f : flat ≡ some isFlat grid) where
-    pub shape-flat : flat ≡ true → refused 7 ≡ toldOf (shapeOf t (tableAt t at grid outputs))
-    unfolding shapeOf toldOf
+    pub shape-flat : flat ≡ true → refused 7 ≡ answerOf (shapeOf t (tableAt t at grid outputs))
+    unfolding shapeOf answerOf
     shape-flat y = simp (← f, y)
 
     module _ (sharp : flat ≡ false) (last : ℕ) (e : last ≡ (points - 1) * outputs) where
       last-number : lastOf grid * outputs ≡ last
       last-number = let w : lastOf grid ≡ points - 1 = omega (arith, last-is grid product-one, known .points-are) in rw w (sym e)
 
-      pub shape-last : entries ≤ last → refused 18 ≡ toldOf (shapeOf t (tableAt t at grid outputs))
-      unfolding shapeOf toldOf
+      pub shape-last : entries ≤ last → refused 18 ≡ answerOf (shapeOf t (tableAt t at grid outputs))
+      unfolding shapeOf answerOf
       shape-last l = simp (← f, sharp, ← known .entries-are, last-number, le-leb _ _ l)
 
       module _ (more : last < entries) (s : ℕ) (q : s ≡ getD t (at + 16) 0) where
-        pub shape-none : s < 1 → refused 8 ≡ toldOf (shapeOf t (tableAt t at grid outputs))
-        unfolding shapeOf toldOf
+        pub shape-none : s < 1 → refused 8 ≡ answerOf (shapeOf t (tableAt t at grid outputs))
+        unfolding shapeOf answerOf
         shape-none l = simp (← f, sharp, ← known .entries-are, last-number, lt-leb _ _ more, ← q, lt-ltb _ _ l)
 
-        pub shape-three : 1 ≤ s → 2 < s → refused 8 ≡ toldOf (shapeOf t (tableAt t at grid outputs))
-        unfolding shapeOf toldOf
+        pub shape-three : 1 ≤ s → 2 < s → refused 8 ≡ answerOf (shapeOf t (tableAt t at grid outputs))
+        unfolding shapeOf answerOf
         shape-three m l = simp (← f, sharp, ← known .entries-are, last-number, lt-leb _ _ more, ← q, le-ltb _ _ m, lt-ltb _ _ l)
 
         module _ (m : 1 ≤ s) (l : s ≤ 2) (n : ℕ) (w : n ≡ entries * s) where
-          pub shape-past : length t - (at + 20) < n → refused 2 ≡ toldOf (shapeOf t (tableAt t at grid outputs))
-          unfolding shapeOf toldOf
+          pub shape-past : length t - (at + 20) < n → refused 2 ≡ answerOf (shapeOf t (tableAt t at grid outputs))
+          unfolding shapeOf answerOf
           shape-past o =
               let p : length t < at + 20 + n = omega (arith, known .header) in
               simp (← f, sharp, ← known .entries-are, last-number, lt-leb _ _ more, ← q, le-ltb _ _ m, le-ltb _ _ l, ← w, lt-ltb _ _ p)
 
-          pub shape-value : n ≤ length t - (at + 20) → value points (at + 20) n s ≡ toldOf (shapeOf t (tableAt t at grid outputs))
-          unfolding shapeOf toldOf
+          pub shape-value : n ≤ length t - (at + 20) → value points (at + 20) n s ≡ answerOf (shapeOf t (tableAt t at grid outputs))
+          unfolding shapeOf answerOf
           shape-value o =
               let p : at + 20 + n ≤ length t = omega (arith, known .header) in
               simp (← f, sharp, ← known .entries-are, last-number, lt-leb _ _ more, ← q, le-ltb _ _ m, le-ltb _ _ l, ← w, le-ltb _ _ p, known .points-are)
@@ -150,13 +150,13 @@ tells grid outputs counts e =
     (each (Telling grid outputs) (overflows grid outputs) _ _ (λ f. f) (λ f. record { fits = f; points-are = refl; entries-are = refl }))
 
 module _ (t : List ℕ) (at inputs outputs : ℕ) where
-  pub clut-short : length t < 20 → refused 2 ≡ toldOf (clutOf t at inputs outputs)
-  unfolding clutOf toldOf
+  pub clut-short : length t < 20 → refused 2 ≡ answerOf (clutOf t at inputs outputs)
+  unfolding clutOf answerOf
   clut-short l = let w : length t < at + 20 = omega arith in simp (lt-ltb _ _ w)
 
   module _ (m : 20 ≤ length t) where
-    pub clut-header : length t - 20 < at → refused 2 ≡ toldOf (clutOf t at inputs outputs)
-    unfolding clutOf toldOf
+    pub clut-header : length t - 20 < at → refused 2 ≡ answerOf (clutOf t at inputs outputs)
+    unfolding clutOf answerOf
     clut-header l = let w : length t < at + 20 = omega arith in simp (lt-ltb _ _ w)
 
     module _ (room : at ≤ length t - 20) (n : ℕ) (d : n ≡ min inputs 16) (counts : Counts) (h : counts ≡ countsOf (take (at + n - at) (drop at t)) outputs) where
@@ -169,28 +169,28 @@ module _ (t : List ℕ) (at inputs outputs : ℕ) where
       counted : countsOf (gridAt t at inputs) outputs ≡ counts
       counted = sym (rw grid-is at h)
 
-      pub clut-over : counts ≡ Counts.Over → refused 4 ≡ toldOf (clutOf t at inputs outputs)
-      unfolding clutOf toldOf
+      pub clut-over : counts ≡ Counts.Over → refused 4 ≡ answerOf (clutOf t at inputs outputs)
+      unfolding clutOf answerOf
       clut-over e = simp (le-ltb _ _ header, tells (gridAt t at inputs) outputs Counts.Over (counted ∙ e))
 
       module _ (points entries : ℕ) (e : counts ≡ Counts.Fit points entries) where
         told : Fitting (gridAt t at inputs) outputs points entries
         told = tells (gridAt t at inputs) outputs (Counts.Fit points entries) (counted ∙ e)
 
-        pub clut-zero : entries ≡ 0 → refused 5 ≡ toldOf (clutOf t at inputs outputs)
-        unfolding clutOf toldOf
+        pub clut-zero : entries ≡ 0 → refused 5 ≡ answerOf (clutOf t at inputs outputs)
+        unfolding clutOf answerOf
         clut-zero z = simp (le-ltb _ _ header, told .fits, ← told .entries-are, z)
 
         module _ (z : entries ≡ 0 → ⊥) where
-          pub clut-large : mostEntries < entries → refused 6 ≡ toldOf (clutOf t at inputs outputs)
-          unfolding clutOf toldOf
+          pub clut-large : mostEntries < entries → refused 6 ≡ answerOf (clutOf t at inputs outputs)
+          unfolding clutOf answerOf
           clut-large l = simp (le-ltb _ _ header, told .fits, ← told .entries-are, ne-eqb _ _ z, lt-ltb _ _ l)
 
           module _ (l : entries ≤ mostEntries) where
             pub clut-counted : Counted t at (take (at + n - at) (drop at t)) outputs points entries
             clut-counted = rw grid-is (record { header = header; points-are = told .points-are; entries-are = told .entries-are; one = omega arith; few = l })
 
-            pub clut-rest : (r : Told) → r ≡ toldOf (shapeOf t (tableAt t at (take (at + n - at) (drop at t)) outputs)) → r ≡ toldOf (clutOf t at inputs outputs)
+            pub clut-rest : (r : Answer) → r ≡ answerOf (shapeOf t (tableAt t at (take (at + n - at) (drop at t)) outputs)) → r ≡ answerOf (clutOf t at inputs outputs)
             unfolding clutOf
             clut-rest r w = simp (le-ltb _ _ header, told .fits, ← told .entries-are, ne-eqb _ _ z, le-ltb _ _ l) (rw grid-is at w)
 

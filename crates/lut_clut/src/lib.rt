@@ -1,11 +1,11 @@
 // The colour table of an `mAB ` or `mBA ` tag: its shape. Carries over the CLUT part of read_lut_abm_type of moxcms.
-pub use lut_clut_meaning::ClutAnswer;
-pub use lut_clut_meaning::ColourTable;
 use fields::InTag;
 use fields::Refusal;
+pub use lut_clut_meaning::ClutAnswer;
+pub use lut_clut_meaning::ColourTable;
 ghost use mathlib.Core.Path.{_≡_};
 ghost use Prim.Native.Nat.{_*_, min};
-ghost use Rattle.lut_clut_meaning.specs.Answer.{paper, toldOf};
+ghost use Rattle.lut_clut_meaning.specs.Answer.{inNumbers, answerOf};
 ghost use Rattle.lut_clut_meaning.specs.Clut.{some, isFlat, tableAt, shapeOf, clutOf};
 ghost use Rattle.lut_clut.specs.Counts.{countsOf, Counted};
 
@@ -80,7 +80,7 @@ fn read_shape(
     entries: u32,
 ) -> ClutAnswer
     requires { ⌜ Counted (now tag) (at .0) (now grid) outputs points entries ⌝ }
-    ensures { λ r. ⌜ paper r ≡ toldOf (shapeOf (now (tag .entry)) (tableAt (now (tag .entry)) (at .0) (now (grid .entry)) outputs)) ⌝ }
+    ensures { λ r. ⌜ inNumbers r ≡ answerOf (shapeOf (now (tag .entry)) (tableAt (now (tag .entry)) (at .0) (now (grid .entry)) outputs)) ⌝ }
 {
     if has_flat(grid) {
         return ClutAnswer::Refused(Refusal::GridDimension);
@@ -112,7 +112,7 @@ fn read_shape(
 // The colour table at `at` of a tag with so many input and output channels. No sum wraps, whatever `at` is: the tag's length less 20
 // is held against it first.
 pub fn read_clut(tag: &[u8], at: InTag, inputs: u8, outputs: u8) -> ClutAnswer
-    ensures { λ r. ⌜ paper r ≡ toldOf (clutOf (now (tag .entry)) (at .0) inputs outputs) ⌝ }
+    ensures { λ r. ⌜ inNumbers r ≡ answerOf (clutOf (now (tag .entry)) (at .0) inputs outputs) ⌝ }
 {
     let len = tag.len() as u64;
     if len < 20 {

@@ -1,11 +1,11 @@
 -- The worked cases of the colour table hold, jointly: each is computed.
 -- Assumes nothing.
 use mathlib.Core.Path.{refl}
-use Rattle.lut_clut_meaning.specs.Answer.{toldOf}
+use Rattle.lut_clut_meaning.specs.Answer.{answerOf}
 use Rattle.lut_clut_meaning.specs.Cases.{All, Holds, numbersIn, cases}
 use Rattle.lut_clut_meaning.specs.Clut.{clutOf, shapeOf, some, partials}
 use Rattle.lut_clut_meaning.specs.Table.{product, pointOf}
 
 pub claim : All cases
-unfolding All Holds numbersIn toldOf clutOf shapeOf some partials product pointOf
+unfolding All Holds numbersIn answerOf clutOf shapeOf some partials product pointOf
 claim = (refl, (refl, (refl, (refl, (refl, (refl, (refl, (refl, (refl, (refl, (refl, (refl, (refl, (refl, (refl, (refl, (refl, (refl, (refl, (refl, (refl, (refl, (refl, (refl, tt))))))))))))))))))))))))

@@ -6,13 +6,14 @@ use mathlib.Core.Path.{_≡_, refl, sym, ap, _∙_}
 use mathlib.Core.List.{List, [], _∷_, _++_, append-assoc}
 use lib.ListN.{length, getD, take, drop, length-append, length-drop}
 use lib.Seq.{take-at, getD-at, getD-drop, length-take-le}
+use Rattle.fields.specs.Checked.{good}
 use Rattle.icc.specs.Elements.{Stands, Entries, bytes, words, precision, numbers, EntriesFit, entryBytes, Clut, clutElement, ClutSized}
 use Rattle.icc.specs.Grid.{points}
 use Rattle.icc.specs.Numbers.{Bytes}
 use Rattle.fields.proofs.Written.{length16, then8, row8, row16, halvesAt, halves-length, halves-below}
-use Rattle.lut_clut_meaning.specs.Clut.{is, gridAt, clutOf}
+use Rattle.lut_clut_meaning.specs.Clut.{gridAt, clutOf}
 use Rattle.lut_clut_meaning.specs.Table.{Table, product, entriesOf, lengthOf}
-use Rattle.lut_clut_meaning.specs.Standard.{Taken, told, Standing}
+use Rattle.lut_clut_meaning.specs.Standard.{Taken, tableTold, Standing}
 use Rattle.lut_clut_meaning.proofs.Laid.{Laid, Within, conforms, accepted}
 
 -- ---- the numbers of a CLUT
@@ -40,11 +41,11 @@ precision-most (words ns) = omega arith
 -- ---- written, then read
 
 module _ (t : List ℕ) (at inputs outputs : ℕ) (c : Clut) (s : Stands t at (clutElement c)) (z : ClutSized inputs outputs c) where
-  entries-are : entriesOf (told at outputs c) ≡ length (numbers (c .entries))
+  entries-are : entriesOf (tableTold at outputs c) ≡ length (numbers (c .entries))
   entries-are = rw (← points-are (c .grid)) (sym (z .all-entries))
 
   -- the data of the table are the entries
-  pub told-length : lengthOf (told at outputs c) ≡ length (entryBytes (c .entries))
+  pub told-length : lengthOf (tableTold at outputs c) ≡ length (entryBytes (c .entries))
   told-length = rw (entries-are) (sym (entry-length (c .entries)))
 
   abbrev behind-grid : List ℕ
@@ -54,7 +55,7 @@ module _ (t : List ℕ) (at inputs outputs : ℕ) (c : Clut) (s : Stands t at (c
   unfolding clutElement
   there = s .is ∙ simp append-assoc
 
-  laid : Laid t at inputs outputs (told at outputs c)
+  laid : Laid t at inputs outputs (tableTold at outputs c)
   laid =
       let n : min inputs 16 ≡ length (c .grid) = omega (arith, z .dimensions, z .sixteen) in
       let k : length (c .grid ++ c .unused) ≡ 16 = length-append (c .grid) (c .unused) ∙ z .sixteen in
@@ -69,9 +70,9 @@ module _ (t : List ℕ) (at inputs outputs : ℕ) (c : Clut) (s : Stands t at (c
         whole = omega (arith, long, length-drop at t, told-length);
       }
 
-  pub written-read : Taken c → clutOf t at inputs outputs ≡ is (told at outputs c)
+  pub written-read : Taken c → clutOf t at inputs outputs ≡ good (tableTold at outputs c)
   written-read w =
-      conforms t at inputs outputs (told at outputs c) laid
+      conforms t at inputs outputs (tableTold at outputs c) laid
       record { wide = w .wide; one = rw entries-are (w .one); few = rw entries-are (w .few) }
 
 -- ---- read, then written
@@ -129,7 +130,7 @@ module _ (t : List ℕ) (b : Bytes t) (at inputs outputs : ℕ) (few : inputs �
   by-size (suc (suc (suc s))) e l m r = absurd (omega arith)
 
 -- sixteen channels at most have their grid points in the element
-pub read-written : (t : List ℕ) → Bytes t → (at inputs outputs : ℕ) → inputs ≤ 16 → (table : Table) → clutOf t at inputs outputs ≡ is table → Standing t at inputs outputs table
+pub read-written : (t : List ℕ) → Bytes t → (at inputs outputs : ℕ) → inputs ≤ 16 → (table : Table) → clutOf t at inputs outputs ≡ good table → Standing t at inputs outputs table
 read-written t b at inputs outputs few table v =
     let a = accepted t at inputs outputs table v in
     let h = a .laid in

@@ -10,7 +10,7 @@ use mathlib.Core.List.{List, [], _∷_}
 use lib.Dec.{ltb}
 use lib.ListN.{replicate}
 use borrow.Author.Tests.{ltb-true}
-use Rattle.lut_clut_meaning.specs.Table.{Table, product, pointsOf, entriesOf, lengthOf, inGrid, pointOf, lastOf, numberOf}
+use Rattle.lut_clut_meaning.specs.Table.{Table, product, pointsOf, entriesOf, lengthOf, inGrid, pointOf, lastOf, entryNumber}
 
 -- no factor of a product that is not 0 is 0
 pub factors : (p q : ℕ) → 1 ≤ p * q → (1 ≤ p) × (1 ≤ q)
@@ -42,11 +42,11 @@ point-below (g ∷ gs) (x ∷ xs) v = by (point-below gs xs) (ltb x g) refl v
     by rest false e w = absurd (false≢true w)
 
 module _ (table : Table) (index : List ℕ) (channel : ℕ) (valid : inGrid (table .grid) index ≡ true) (low : channel < table .outputs) where
-  pub number-below : numberOf table index channel < entriesOf table
+  pub number-below : entryNumber table index channel < entriesOf table
   number-below = below (pointOf (table .grid) index) (pointsOf table) (table .outputs) channel (point-below (table .grid) index valid) low
 
   -- the entry's bytes lie in the data
-  pub entry-below : numberOf table index channel * table .size + table .size ≤ lengthOf table
+  pub entry-below : entryNumber table index channel * table .size + table .size ≤ lengthOf table
   entry-below = omega (arith, mul-le-mul-right (table .size) number-below)
 
 -- ---- the last point

@@ -5,8 +5,9 @@ use mathlib.Core.Path.{_≡_}
 use mathlib.Core.Bool.{true}
 use mathlib.Core.List.{List}
 use lib.ListN.{length, getD}
-use Rattle.lut_clut_meaning.specs.Clut.{is, mostEntries, clutOf}
-use Rattle.lut_clut_meaning.specs.Table.{Table, entriesOf, lengthOf, inGrid, numberOf}
+use Rattle.fields.specs.Checked.{good}
+use Rattle.lut_clut_meaning.specs.Clut.{mostEntries, clutOf}
+use Rattle.lut_clut_meaning.specs.Table.{Table, entriesOf, lengthOf, inGrid, entryNumber}
 use Rattle.lut_clut_meaning.proofs.Laid.{accepted}
 use Rattle.lut_clut_meaning.proofs.Grid.{entry-below}
 
@@ -16,9 +17,9 @@ pub record Inside (t : List ℕ) (table : Table) : Type 0 where
   pub size-least : 1 ≤ table .size
   pub size-most : table .size ≤ 2
   pub few : entriesOf table ≤ mostEntries
-  pub entry-in-data : (index : List ℕ) (channel : ℕ) → inGrid (table .grid) index ≡ true → channel < table .outputs → numberOf table index channel * table .size + table .size ≤ lengthOf table
+  pub entry-in-data : (index : List ℕ) (channel : ℕ) → inGrid (table .grid) index ≡ true → channel < table .outputs → entryNumber table index channel * table .size + table .size ≤ lengthOf table
 
-pub inside : (t : List ℕ) (at inputs outputs : ℕ) (table : Table) → clutOf t at inputs outputs ≡ is table → Inside t table
+pub inside : (t : List ℕ) (at inputs outputs : ℕ) (table : Table) → clutOf t at inputs outputs ≡ good table → Inside t table
 inside t at inputs outputs table h =
     let a = accepted t at inputs outputs table h in
     record {

@@ -10,8 +10,9 @@ use mathlib.Core.List.{List, [], _∷_, _++_}
 use lib.Dec.{ltb, leb, eqb}
 use lib.ListN.{length, getD}
 use borrow.Author.Tests.{ne-eqb, le-ltb, lt-leb, ltb-false, eqb-false}
+use Rattle.fields.specs.Checked.{Checked, good, bad}
 use Rattle.fields.proofs.Choice.{each, neither-left, neither-right}
-use Rattle.lut_clut_meaning.specs.Clut.{Seen, is, no, some, isOver, isFlat, partials, overflows, mostEntries, gridAt, tableAt, shapeOf, clutOf}
+use Rattle.lut_clut_meaning.specs.Clut.{some, isOver, isFlat, partials, overflows, mostEntries, gridAt, tableAt, shapeOf, clutOf}
 use Rattle.lut_clut_meaning.specs.Table.{Table, product, entriesOf, lengthOf, lastOf}
 use Rattle.lut_clut_meaning.proofs.Grid.{factors, last-below}
 
@@ -62,7 +63,7 @@ module _ (t : List ℕ) (at inputs outputs : ℕ) where
   abbrev read : Table
   read = tableAt t at (gridAt t at inputs) outputs
 
-  read-accepted : Laid t at inputs outputs read → Within read → clutOf t at inputs outputs ≡ is read
+  read-accepted : Laid t at inputs outputs read → Within read → clutOf t at inputs outputs ≡ good read
   unfolding clutOf shapeOf
   read-accepted h w =
       let grid : List ℕ = gridAt t at inputs in
@@ -73,7 +74,7 @@ module _ (t : List ℕ) (at inputs outputs : ℕ) where
       let some-are : n ≡ 0 → ⊥ = λ e. omega (arith, w .one) in
       rw (le-ltb _ _ header, no-over, ne-eqb _ _ some-are, le-ltb _ _ (w .few), v, lt-leb _ _ (last-below read (w .one)), le-ltb _ _ (h .size-least), le-ltb _ _ (h .size-most), le-ltb _ _ (h .whole))
 
-  pub conforms : (table : Table) → Laid t at inputs outputs table → Within table → clutOf t at inputs outputs ≡ is table
+  pub conforms : (table : Table) → Laid t at inputs outputs table → Within table → clutOf t at inputs outputs ≡ good table
   conforms table h w = let e = there t at inputs outputs table h in rw (← e) (read-accepted (rw (← e) at h) (rw (← e) at w))
 
 -- ---- what is accepted is laid out so
@@ -88,14 +89,14 @@ pub record Accepted (t : List ℕ) (at inputs outputs : ℕ) (table : Table) : T
   pub laid : Laid t at inputs outputs table
   pub within : Within table
 
-Facts : List ℕ → ℕ → ℕ → ℕ → Seen → Type 0
-Facts t at inputs outputs (is table) = Accepted t at inputs outputs table
-Facts t at inputs outputs (no n) = Unit
+Facts : List ℕ → ℕ → ℕ → ℕ → Checked Table → Type 0
+Facts t at inputs outputs (good table) = Accepted t at inputs outputs table
+Facts t at inputs outputs (bad n) = Unit
 
 facts : (t : List ℕ) (at inputs outputs : ℕ) → Facts t at inputs outputs (clutOf t at inputs outputs)
 unfolding Facts clutOf shapeOf
 facts t at inputs outputs =
-    let P : Seen → Type 0 = Facts t at inputs outputs in
+    let P : Checked Table → Type 0 = Facts t at inputs outputs in
     let grid : List ℕ = gridAt t at inputs in
     let n : ℕ = product grid * outputs in
     let s : ℕ = getD t (at + 16) 0 in
@@ -121,6 +122,6 @@ facts t at inputs outputs =
       within = record { wide = each-wide grid f; one = (let y = eqb-false n 0 z in omega arith); few = ltb-false mostEntries n m };
     }))))))))
 
-pub accepted : (t : List ℕ) (at inputs outputs : ℕ) (table : Table) → clutOf t at inputs outputs ≡ is table → Accepted t at inputs outputs table
+pub accepted : (t : List ℕ) (at inputs outputs : ℕ) (table : Table) → clutOf t at inputs outputs ≡ good table → Accepted t at inputs outputs table
 unfolding Facts
 accepted t at inputs outputs table h = subst (Facts t at inputs outputs) h (facts t at inputs outputs)

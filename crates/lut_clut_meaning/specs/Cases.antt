@@ -3,28 +3,29 @@ use Prim.Native.Nat.{ℕ, pred, _*_}
 use mathlib.Core.Path.{_≡_}
 use mathlib.Core.List.{List, [], _∷_, _++_, map}
 use lib.ListN.{take, replicate}
-use Rattle.lut_clut_meaning.specs.Answer.{Told, value, refused, toldOf}
-use Rattle.lut_clut_meaning.specs.Clut.{Seen, is, no, clutOf}
-use Rattle.lut_clut_meaning.specs.Table.{entriesOf, pointOf, lastOf, numberOf}
+use Rattle.fields.specs.Checked.{Checked, good, bad}
+use Rattle.lut_clut_meaning.specs.Answer.{Answer, value, refused, answerOf}
+use Rattle.lut_clut_meaning.specs.Clut.{clutOf}
+use Rattle.lut_clut_meaning.specs.Table.{Table, entriesOf, pointOf, lastOf, entryNumber}
 
 pub data Case : Type 0 where
   -- tag, input and output channels, and the answer at offset 0
-  gives : List ℕ → ℕ → ℕ → Told → Case
+  gives : List ℕ → ℕ → ℕ → Answer → Case
   -- tag, offset, input and output channels, and the answer
-  givesAt : List ℕ → ℕ → ℕ → ℕ → Told → Case
+  givesAt : List ℕ → ℕ → ℕ → ℕ → Answer → Case
   -- tag, input and output channels, and of the table there the entries, what check 18 compares them with, and the last entry's number
   numbers : List ℕ → ℕ → ℕ → List ℕ → Case
   -- a grid, and the number of one of its points
   point : List ℕ → List ℕ → ℕ → Case
 
-unfoldable pub numbersIn : Seen → List ℕ
-numbersIn (is table) =
-    entriesOf table ∷ lastOf (table .grid) * table .outputs ∷ numberOf table (map pred (table .grid)) (pred (table .outputs)) ∷ []
-numbersIn (no n) = []
+unfoldable pub numbersIn : Checked Table → List ℕ
+numbersIn (good table) =
+    entriesOf table ∷ lastOf (table .grid) * table .outputs ∷ entryNumber table (map pred (table .grid)) (pred (table .outputs)) ∷ []
+numbersIn (bad n) = []
 
 unfoldable pub Holds : Case → Type 0
-Holds (gives t inputs outputs a) = toldOf (clutOf t 0 inputs outputs) ≡ a
-Holds (givesAt t at inputs outputs a) = toldOf (clutOf t at inputs outputs) ≡ a
+Holds (gives t inputs outputs a) = answerOf (clutOf t 0 inputs outputs) ≡ a
+Holds (givesAt t at inputs outputs a) = answerOf (clutOf t at inputs outputs) ≡ a
 Holds (numbers t inputs outputs ns) = numbersIn (clutOf t 0 inputs outputs) ≡ ns
 Holds (point grid index n) = pointOf grid index ≡ n
 

@@ -10,6 +10,7 @@ use mathlib.Core.Bool.{Bool, false, cond, _||_}
 use mathlib.Core.List.{List, [], _∷_, _++_}
 use lib.Dec.{ltb, leb, eqb}
 use lib.ListN.{length, getD, take, drop}
+use Rattle.fields.specs.Checked.{Checked, good, bad}
 use Rattle.lut_clut_meaning.specs.Table.{Table, entriesOf, lengthOf, lastOf}
 
 -- the grid in use: of the sixteen bytes, one for each input channel
@@ -46,26 +47,21 @@ isFlat g = ltb g 2
 abbrev pub mostEntries : ℕ
 mostEntries = 10000000
 
--- what the bytes of a colour table say: the table, or the number of the refusal
-pub data Seen : Type 0 where
-  is : Table → Seen
-  no : ℕ → Seen
-
 -- a table whose entries are counted: its dimensions, its last point, the bytes of an entry and the data
-unfoldable pub shapeOf : List ℕ → Table → Seen
+unfoldable pub shapeOf : List ℕ → Table → Checked Table
 shapeOf t table =
-    cond (some isFlat (table .grid)) (no 7) (
-    cond (leb (entriesOf table) (lastOf (table .grid) * table .outputs)) (no 18) (
-    cond (ltb (table .size) 1 || ltb 2 (table .size)) (no 8) (
-    cond (ltb (length t) (table .start + lengthOf table)) (no 2) (
-    is table))))
+    cond (some isFlat (table .grid)) (bad 7) (
+    cond (leb (entriesOf table) (lastOf (table .grid) * table .outputs)) (bad 18) (
+    cond (ltb (table .size) 1 || ltb 2 (table .size)) (bad 8) (
+    cond (ltb (length t) (table .start + lengthOf table)) (bad 2) (
+    good table))))
 
 -- the colour table at `at` of a tag with so many input and output channels
-unfoldable pub clutOf : List ℕ → ℕ → ℕ → ℕ → Seen
+unfoldable pub clutOf : List ℕ → ℕ → ℕ → ℕ → Checked Table
 clutOf t at inputs outputs =
     let table = tableAt t at (gridAt t at inputs) outputs in
-    cond (ltb (length t) (table .start)) (no 2) (
-    cond (overflows (table .grid) outputs) (no 4) (
-    cond (eqb (entriesOf table) 0) (no 5) (
-    cond (ltb mostEntries (entriesOf table)) (no 6) (
+    cond (ltb (length t) (table .start)) (bad 2) (
+    cond (overflows (table .grid) outputs) (bad 4) (
+    cond (eqb (entriesOf table) 0) (bad 5) (
+    cond (ltb mostEntries (entriesOf table)) (bad 6) (
     shapeOf t table))))

@@ -14,8 +14,8 @@ pub record Taken (c : Clut) : Type 0 where
   pub few : length (numbers (c .entries)) ≤ 10000000
 
 -- what is answered of a CLUT at an offset: the entries start behind its first 20 bytes
-abbrev pub told : ℕ → ℕ → Clut → Table
-told offset outputs c = record { grid = c .grid; outputs = outputs; start = offset + 20; size = precision (c .entries) }
+abbrev pub tableTold : ℕ → ℕ → Clut → Table
+tableTold offset outputs c = record { grid = c .grid; outputs = outputs; start = offset + 20; size = precision (c .entries) }
 
 -- the tag has a CLUT at the offset that is answered by the table
 pub record Standing (t : List ℕ) (offset inputs outputs : ℕ) (table : Table) : Type 0 where
@@ -23,4 +23,4 @@ pub record Standing (t : List ℕ) (offset inputs outputs : ℕ) (table : Table)
   pub stands : Stands t offset (clutElement clut)
   pub sized : ClutSized inputs outputs clut
   pub taken : Taken clut
-  pub told-is : table ≡ told offset outputs clut
+  pub told-is : table ≡ tableTold offset outputs clut

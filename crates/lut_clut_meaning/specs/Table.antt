@@ -44,5 +44,5 @@ abbrev pub lastOf : List ℕ → ℕ
 lastOf grid = pointOf grid (map pred grid)
 
 -- the number of the entry of an index and a channel, from 0
-abbrev pub numberOf : Table → List ℕ → ℕ → ℕ
-numberOf table index channel = pointOf (table .grid) index * table .outputs + channel
+abbrev pub entryNumber : Table → List ℕ → ℕ → ℕ
+entryNumber table index channel = pointOf (table .grid) index * table .outputs + channel

@@ -12,6 +12,7 @@ use lib.Dec.{ltb, eqb}
 use lib.ListN.{length, take, drop, replicate, length-map, length-append, length-take, length-drop}
 use lib.Seq.{take-all}
 use borrow.Author.Tests.{eq-eqb, ne-eqb, le-ltb, eqb-true, eqb-false, ltb-false}
+use Rattle.fields.specs.Checked.{good}
 use Rattle.icc.specs.Elements.{Stands, Direction, aToB, bToA, signature, Head, headElement, curvesA, curvesMB, PlacedCurve, CurvesFrom, Bias, matrixElement, precision, entryBytes, clutElement, CurveSet, no-curves, some-curves, MatrixAt, no-matrix, the-matrix, ClutAt, no-clut, the-clut, LutParts, LutCurves}
 use Rattle.icc.specs.Numbers.{be32, each32, Is32, Each32, Bytes}
 use Rattle.icc.specs.Tables.{Matrix, Lut, nine, Sized, Entries16, lut16Type, lut8Type}
@@ -20,9 +21,9 @@ use Rattle.fields.specs.Bytes.{u16At, u32At, bytesAt, wordsAt}
 use Rattle.fields.specs.Place.{countedSize}
 use Rattle.fields.specs.Tag.{signatureOf}
 use Rattle.fields.specs.declared.Kind.the-variants.{Mab}
-use Rattle.lut_clut_meaning.specs.Clut.{is, clutOf}
+use Rattle.lut_clut_meaning.specs.Clut.{clutOf}
 use Rattle.lut_clut_meaning.specs.Table.{Table, lengthOf}
-use Rattle.lut_clut_meaning.specs.Standard.{told as tableTold}
+use Rattle.lut_clut_meaning.specs.Standard.{tableTold as tableTold}
 use Rattle.lut_clut_meaning.proofs.Laid.{accepted as clut-accepted}
 use Rattle.lut_clut_meaning.proofs.Conforms.{told-length, written-read as clut-written, read-written as clut-read}
 use Rattle.curve_meaning.specs.Shape.{recordWords}
@@ -33,18 +34,18 @@ use Rattle.lut_run_meaning.specs.Standard.{seenOf, Passes, Standing, NoneEmpty}
 use Rattle.lut_run_meaning.proofs.Runs.{run-count}
 use Rattle.lut_run_meaning.proofs.Conforms.{written-run, run-written, records-are, passes-by}
 use Rattle.lut_run_meaning.proofs.Writing.{records-append, records-length}
-use Rattle.lut_meaning.specs.Abm.{noTable, tableOf, valueFrom, recordedOf, judgedOf, abmOf}
+use Rattle.lut_meaning.specs.Abm.{noTable, colourTableOf, valueFrom, recordedOf, checkedOf, abmOf}
 use Rattle.lut_mft_meaning.specs.Answer.{Fields, State, answerOf}
 use Rattle.lut_mft_meaning.specs.Layout.{isWide, isMft, matrixOf as mftMatrix}
 use Rattle.lut_mft_meaning.specs.Mft.{mftOf}
-use Rattle.lut_mft_meaning.specs.Standard.{told16, told8, Taken as MftTaken, Begins8, Begins16}
+use Rattle.lut_mft_meaning.specs.Standard.{fieldsTold16, fieldsTold8, Taken as MftTaken, Begins8, Begins16}
 use Rattle.lut_mft_meaning.proofs.Conforms.{written-read16, written-read8, read-written as mft-written}
 use Rattle.lut_meaning.specs.Answer.{Abm, State as Abm·State, mft, abm, absent, refused, Answer, refuse, fromMft}
-use Rattle.lut_meaning.specs.Judged.{good, ended}
+use Rattle.lut_meaning.specs.Checks.{ended}
 use Rattle.lut_meaning.specs.Layout.{toPcs, inputs, outputs, bOffset, matrixOffset, mOffset, clutOffset, aOffset, present, deviceChannels, spaceChannels, aCurves, mCurves, bCurves, planOf, recordsNeeded, matrixOf, biasOf, gridOf}
-use Rattle.lut_meaning.specs.Lut.{byType, lutOf, leftOf}
-use Rattle.lut_meaning.specs.Parts.{runA, runM, runB, runsJudged, curvesOf, matrixJudged}
-use Rattle.lut_meaning.specs.Standard.{towardsPcs, curvesThere, Counts, matrixTold, biasTold, MatrixTaken, startTold, bytesTold, sizeTold, gridTold, ClutFits, told, recordsWritten, PartsTaken, CurvesTaken, PartsAs, TagAs, PassesBy}
+use Rattle.lut_meaning.specs.Lut.{byType, lutOf, slotsAfter}
+use Rattle.lut_meaning.specs.Parts.{runA, runM, runB, runsChecked, curvesOf, matrixChecked}
+use Rattle.lut_meaning.specs.Standard.{towardsPcs, curvesThere, Counts, matrixTold, biasTold, MatrixTaken, startTold, bytesTold, sizeTold, gridTold, ClutFits, answerTold, recordsWritten, PartsTaken, CurvesTaken, PartsAs, TagAs, PassesBy}
 use Rattle.lut_meaning.proofs.Found.{Accepted, mft-value, in-profile, abm-found, mft-found}
 use Rattle.lut_meaning.proofs.Inside.{matrix-inside}
 use Rattle.lut_meaning.proofs.Shared.{a-whole, m-whole, b-whole}
@@ -122,8 +123,8 @@ module _ {t : List ℕ} where
       (long, first ∙ ap (λ (l : List ℕ). wordsAt l 0 9) e ∙ words-written (nine m) rest f, second ∙ ap (λ (l : List ℕ). wordsAt l 36 3) e ∙ sym (words-drop (each32 (nine m) ++ rest) 36 0 3) ∙ words-written (b .e10 ∷ b .e11 ∷ b .e12 ∷ []) (s .behind) g)
 
   module _ {offset : ℕ} (e : matrixOffset t ≡ offset) where
-    matrix-good : (x : MatrixAt t offset) → MatrixTaken x → matrixJudged t ≡ good
-    unfolding matrixJudged MatrixTaken
+    matrix-good : (x : MatrixAt t offset) → MatrixTaken x → matrixChecked t ≡ good tt
+    unfolding matrixChecked MatrixTaken
     matrix-good (no-matrix z) f = rw (e, eq-eqb offset 0 z)
     matrix-good (the-matrix n m b s) (f, g) = rw (e, ne-eqb offset 0 n, le-ltb (length t) (offset + 48) (matrix-there offset m b s f g .0))
 
@@ -143,8 +144,8 @@ module _ {t : List ℕ} where
     tableFor (no-clut z) = noTable
     tableFor (the-clut n c s y) = tableTold offset o c
 
-    table-good : (x : ClutAt t offset i o) → ClutFits x → tableOf t ≡ is (tableFor x)
-    unfolding tableOf ClutFits
+    table-good : (x : ClutAt t offset i o) → ClutFits x → colourTableOf t ≡ good (tableFor x)
+    unfolding colourTableOf ClutFits
     table-good (no-clut z) f = rw (e, eq-eqb offset 0 z)
     table-good (the-clut n c s y) f = rw (e, ei, eo, ne-eqb offset 0 n) (clut-written t offset i o c s y f)
 
@@ -206,11 +207,11 @@ module _ (t : List ℕ) (l : LutParts t) (f : PartsTaken l) where
   abbrev table : Table
   table = tableFor (seen .clut-is) (seen .i-is) (seen .o-is) (l .clut)
 
-  table-read : tableOf t ≡ is table
+  table-read : colourTableOf t ≡ good table
   table-read = table-good (seen .clut-is) (seen .i-is) (seen .o-is) (l .clut) (f .clut-fits)
 
   -- the answer tells what was written
-  value-told : valueFrom t (table .start) (lengthOf table) (table .size) ≡ told l
+  value-told : valueFrom t (table .start) (lengthOf table) (table .size) ≡ answerTold l
   unfolding valueFrom
   value-told =
       rw (start-told (seen .clut-is) (seen .i-is) (seen .o-is) (l .clut), bytes-told (seen .clut-is) (seen .i-is) (seen .o-is) (l .clut), size-told (seen .clut-is) (seen .i-is) (seen .o-is) (l .clut), grid-told (seen .clut-is) (seen .i-is) (seen .o-is) (l .clut), matrix-told (seen .matrix-is) (l .matrix) (f .matrix-fits), bias-told (seen .matrix-is) (l .matrix) (f .matrix-fits), a-counted, m-counted, b-counted, there-is (h .offsetA) (curvesA h), there-is (h .offsetM) (curvesMB h), there-is (h .offsetB) (curvesMB h), seen .to-pcs, seen .i-is, seen .o-is)
@@ -244,8 +245,8 @@ module _ (t : List ℕ) (l : LutParts t) (f : PartsTaken l) where
         rw (run-a, run-m, run-b) (records-append (map seenOf (c .a) ++ map seenOf (c .m)) (map seenOf (c .b)) ∙ rw (records-append (map seenOf (c .a)) (map seenOf (c .m)), records-are (c .a), records-are (c .m), records-are (c .b)))
 
     -- and the answer is as told, if the slots suffice
-    pub written-read : (words : ℕ) → (length (c .a) + length (c .m) + length (c .b)) * recordWords ≤ words → abmOf walk limit t words ≡ told l
-    unfolding abmOf judgedOf recordedOf runsJudged ended recordsNeeded
+    pub written-read : (words : ℕ) → (length (c .a) + length (c .m) + length (c .b)) * recordWords ≤ words → abmOf walk limit t words ≡ answerTold l
+    unfolding abmOf checkedOf recordedOf runsChecked ended recordsNeeded
     written-read words room =
         let few : ltb 4 (inputs t) && ltb 4 (outputs t) ≡ false = rw (seen .i-is, seen .o-is) (few-is (h .inputChannels) (h .outputChannels) (f .few-channels)) in
         let enough : recordsNeeded t ≤ words / recordWords = omega (arith, a-count, m-count, b-count) in
@@ -300,11 +301,11 @@ module _ (t : List ℕ) (b : Bytes t) where
         | inr l ↦ matrix-at offset (eqb-false offset 0 e) l
       ]
 
-  clut-of : (i o : ℕ) → inputs t ≡ i → outputs t ≡ o → ((clutOffset t ≡ 0 → ⊥) → i ≤ 16) → (table : Table) → tableOf t ≡ is table → (x : ClutAt t (clutOffset t) i o) × ClutFits x
-  unfolding tableOf ClutFits
+  clut-of : (i o : ℕ) → inputs t ≡ i → outputs t ≡ o → ((clutOffset t ≡ 0 → ⊥) → i ≤ 16) → (table : Table) → colourTableOf t ≡ good table → (x : ClutAt t (clutOffset t) i o) × ClutFits x
+  unfolding colourTableOf ClutFits
   clut-of i o ei eo few table = by (eqb (clutOffset t) 0) refl
     where
-      by : (x : Bool) → eqb (clutOffset t) 0 ≡ x → cond x (is noTable) (clutOf t (clutOffset t) (inputs t) (outputs t)) ≡ is table → (x : ClutAt t (clutOffset t) i o) × ClutFits x
+      by : (x : Bool) → eqb (clutOffset t) 0 ≡ x → cond x (good noTable) (clutOf t (clutOffset t) (inputs t) (outputs t)) ≡ good table → (x : ClutAt t (clutOffset t) i o) × ClutFits x
       by true e h = (no-clut (eqb-true (clutOffset t) 0 e), tt)
       by false e h =
           let s = clut-read t b (clutOffset t) i o (few (eqb-false (clutOffset t) 0 e)) table (rw (ei, eo) at h) in
@@ -359,7 +360,7 @@ module _ (t : List ℕ) (b : Bytes t) where
 
     -- the table that was read is the one that is told
     same-table : v .table ≡ table t parts taken
-    same-table = let q : is (v .table) ≡ is (table t parts taken) = sym (v .table-is) ∙ table-read t parts taken in cc
+    same-table = let q : good (v .table) ≡ good (table t parts taken) = sym (v .table-is) ∙ table-read t parts taken in cc
 
     frame : PartsAs t (abmOf walk limit t words)
     frame =
@@ -412,7 +413,7 @@ module _ (t : List ℕ) (b : Bytes t) where
       back : (slots left : List ℕ) → let records : List ℕ = recordsOf (curvesOf walk limit t (planOf t)) in left ≡ records ++ drop (length records) slots → TagAs walk limit t (abmOf walk limit t words) slots left
       unfolding frame parts
       back slots left e =
-          record { frame = frame; curves = curves; taken = curves-taken; left-is = e ∙ ap (λ (x : List ℕ). x ++ drop (length x) slots) (written-records t parts taken walk limit curves curves-taken) }
+          record { frame = frame; curves = curves; taken = curves-taken; slots-are = e ∙ ap (λ (x : List ℕ). x ++ drop (length x) slots) (written-records t parts taken walk limit curves curves-taken) }
 
 -- ---- a tag of a profile
 
@@ -433,15 +434,15 @@ module _ (limit points : ℕ) (p : List ℕ) (entry size words : ℕ) (inside : 
 
     module _ (l : LutParts tagBytes) (f : PartsTaken l) (c : LutCurves tagBytes (l .head)) (k : CurvesTaken walk limit c) (room : (length (c .a) + length (c .m) + length (c .b)) * recordWords ≤ words) where
       -- what the standard writes, anywhere in a profile, is answered with what was written
-      pub profile-read : lutOf walk limit points p entry size words ≡ told l
+      pub profile-read : lutOf walk limit points p entry size words ≡ answerTold l
       unfolding headElement
       profile-read =
           let e : u32At tagBytes 0 ≡ signature (l .head .direction) = ap (λ (s : List ℕ). u32At s 0) (l .begins .is) ∙ read32 (signature (l .head .direction)) (signature-fits (l .head .direction)) in
           type-read (l .head .direction) e ∙ written-read tagBytes l f walk limit c k words room
 
       -- and leaves the records of the curves that were written in front of the lent slots
-      pub profile-left : (slots : List ℕ) → length slots ≡ words → leftOf walk limit points p entry size slots ≡ recordsWritten c ++ drop (length (recordsWritten c)) slots
-      profile-left slots n =
+      pub profile-slots : (slots : List ℕ) → length slots ≡ words → slotsAfter walk limit points p entry size slots ≡ recordsWritten c ++ drop (length (recordsWritten c)) slots
+      profile-slots slots n =
           let some : size ≡ 0 → ⊥ = λ z. omega arith in
           rw (n, ne-eqb size 0 some, profile-read, written-records tagBytes l f walk limit c k)
 
@@ -452,12 +453,12 @@ module _ (limit points : ℕ) (p : List ℕ) (entry size words : ℕ) (inside : 
       let some : size ≡ 0 → ⊥ = λ z. omega arith in
       rw (ne-eqb size 0 some, le-ltb (length p) (entry + size) inside, le-ltb size 48 long, e)
 
-  pub profile-read16 : (walk : Walk) (reserved reserved2 n m : ℕ) (l : Lut) (rest : List ℕ) → MftTaken points l → Entries16 n → Entries16 m → Sized n m l → tagBytes ≡ lut16Type reserved reserved2 n m l ++ rest → lutOf walk limit points p entry size words ≡ record { state = mft (told16 n m l); grid = replicate 16 0; matrix = nine (l .matrix); bias = replicate 3 0 }
+  pub profile-read16 : (walk : Walk) (reserved reserved2 n m : ℕ) (l : Lut) (rest : List ℕ) → MftTaken points l → Entries16 n → Entries16 m → Sized n m l → tagBytes ≡ lut16Type reserved reserved2 n m l ++ rest → lutOf walk limit points p entry size words ≡ record { state = mft (fieldsTold16 n m l); grid = replicate 16 0; matrix = nine (l .matrix); bias = replicate 3 0 }
   unfolding isMft isWide signatureOf lut16Type
   profile-read16 walk reserved reserved2 n m l rest k en em z e =
       mft-read walk (ap isMft e) ∙ ap (λ (t : List ℕ). fromMft (answerOf t (mftOf points t))) e ∙ ap fromMft (written-read16 points reserved reserved2 l rest k n m en em z)
 
-  pub profile-read8 : (walk : Walk) (reserved reserved2 : ℕ) (l : Lut) (rest : List ℕ) → MftTaken points l → Sized 256 256 l → tagBytes ≡ lut8Type reserved reserved2 l ++ rest → lutOf walk limit points p entry size words ≡ record { state = mft (told8 l); grid = replicate 16 0; matrix = nine (l .matrix); bias = replicate 3 0 }
+  pub profile-read8 : (walk : Walk) (reserved reserved2 : ℕ) (l : Lut) (rest : List ℕ) → MftTaken points l → Sized 256 256 l → tagBytes ≡ lut8Type reserved reserved2 l ++ rest → lutOf walk limit points p entry size words ≡ record { state = mft (fieldsTold8 l); grid = replicate 16 0; matrix = nine (l .matrix); bias = replicate 3 0 }
   unfolding isMft isWide signatureOf lut8Type
   profile-read8 walk reserved reserved2 l rest k z e =
       mft-read walk (ap isMft e) ∙ ap (λ (t : List ℕ). fromMft (answerOf t (mftOf points t))) e ∙ ap fromMft (written-read8 points reserved reserved2 l rest k z)
@@ -472,7 +473,7 @@ counted-is size = by (eqb size 0)
     by false l = refl
 
 -- a step over each curve by the records is one by the curves
-module _ (walk : Walk) (limit : ℕ) (t : List ℕ) (g : runsJudged walk limit t (planOf t) ≡ good) where
+module _ (walk : Walk) (limit : ℕ) (t : List ℕ) (g : runsChecked walk limit t (planOf t) ≡ good tt) where
   abbrev ca : List Placed
   ca = runA walk limit t (planOf t) .curves
 
@@ -502,10 +503,10 @@ numberIn g absent = 0
 numberIn g (refused n) = 0
 
 -- a colour table that is there has entries of some bytes
-table-sized : (t : List ℕ) (table : Table) → tableOf t ≡ is table → (clutOffset t ≡ 0 → ⊥) → 1 ≤ table .size
-unfolding tableOf
+table-sized : (t : List ℕ) (table : Table) → colourTableOf t ≡ good table → (clutOffset t ≡ 0 → ⊥) → 1 ≤ table .size
+unfolding colourTableOf
 table-sized t table h there =
-    let e : clutOf t (clutOffset t) (inputs t) (outputs t) ≡ is table = rw (ne-eqb (clutOffset t) 0 there) at h in
+    let e : clutOf t (clutOffset t) (inputs t) (outputs t) ≡ good table = rw (ne-eqb (clutOffset t) 0 there) at h in
     clut-accepted t (clutOffset t) (inputs t) (outputs t) table e .laid .size-least
 
 three-passes : (walk : Walk) (a m b : List Placed) (rest : List ℕ) → PassesBy walk (recordsOf (a ++ m ++ b) ++ rest) (length a) (length m) (length b) → Passes walk a × Passes walk m × Passes walk b
@@ -573,7 +574,7 @@ module _ (limit points : ℕ) (p : List ℕ) (b : Bytes p) (entry size : ℕ) wh
         (rw k at (w .tag-in-profile), rw k at (rw (← w .as-abm) at r))
 
     -- and the curves, where the walk steps over each but the last of its set
-    pub profile-written : (slots left : List ℕ) → length slots ≡ words → leftOf walk limit points p entry size slots ≡ left → PassesBy walk left (f .a) (f .m) (f .b) → (entry + size ≤ length p) × TagAs walk limit tagIn (lutOf walk limit points p entry size words) slots left
+    pub profile-written : (slots left : List ℕ) → length slots ≡ words → slotsAfter walk limit points p entry size slots ≡ left → PassesBy walk left (f .a) (f .m) (f .b) → (entry + size ≤ length p) × TagAs walk limit tagIn (lutOf walk limit points p entry size words) slots left
     unfolding signatureOf valueFrom curvesOf
     profile-written slots left n q pass =
         let w = abm-found walk limit points p entry size words f h in

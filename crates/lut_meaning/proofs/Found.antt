@@ -10,24 +10,24 @@ use mathlib.Core.Logic.{_⊎_, inl, inr}
 use lib.Dec.{ltb, eqb}
 use lib.ListN.{length}
 use borrow.Author.Tests.{ltb-false, eqb-true}
+use Rattle.fields.proofs.Never.{never}
+use Rattle.fields.specs.Checked.{Checked, good, bad}
 use Rattle.fields.specs.Place.{countedSize}
 use Rattle.fields.specs.Bytes.{u32At}
 use Rattle.fields.specs.Tag.{signatureOf}
 use Rattle.fields.specs.declared.Kind.the-variants.{Mab, Mba}
 use Rattle.fields.proofs.Choice.{each}
-use Rattle.lut_clut_meaning.specs.Clut.{Seen, is, no}
 use Rattle.lut_clut_meaning.specs.Table.{Table, lengthOf}
 use Rattle.curve_meaning.specs.Shape.{recordWords}
 use Rattle.curve_meaning.specs.declared.Walk.{Walk}
 use Rattle.lut_mft_meaning.specs.Answer.{Fields, State as Mft·State, answerOf}
 use Rattle.lut_mft_meaning.specs.Layout.{isMft}
 use Rattle.lut_mft_meaning.specs.Mft.{mftOf}
-use Rattle.lut_meaning.specs.Abm.{tableOf, valueFrom, recordedOf, judgedOf, withTable, abmOf}
+use Rattle.lut_meaning.specs.Abm.{colourTableOf, valueFrom, recordedOf, checkedOf, withTable, abmOf}
 use Rattle.lut_meaning.specs.Answer.{Abm, State, mft, abm, absent, refused, Answer, fromMft, orRefused}
 use Rattle.lut_meaning.specs.Layout.{inputs, outputs, planOf, recordsNeeded}
 use Rattle.lut_meaning.specs.Lut.{tagOf, isAbm, byType, lutOf}
-use Rattle.lut_meaning.specs.Parts.{runsJudged, matrixJudged}
-use Rattle.lut_meaning.specs.Judged.{Judged, good, bad}
+use Rattle.lut_meaning.specs.Parts.{runsChecked, matrixChecked}
 
 -- a value, of either kind
 unfoldable pub IsValue : State → Type 0
@@ -53,10 +53,10 @@ not-refused e v = absurd (rw e at v)
 module _ (walk : Walk) (limit : ℕ) (t : List ℕ) (words : ℕ) where
   pub record Accepted (a : Answer) : Type 0 where
     pub few-channels : ltb 4 (inputs t) && ltb 4 (outputs t) ≡ false
-    pub matrix-good : matrixJudged t ≡ good
+    pub matrix-good : matrixChecked t ≡ good tt
     pub table : Table
-    pub table-is : tableOf t ≡ is table
-    pub runs-good : runsJudged walk limit t (planOf t) ≡ good
+    pub table-is : colourTableOf t ≡ good table
+    pub runs-good : runsChecked walk limit t (planOf t) ≡ good tt
     pub room : recordsNeeded t ≤ words / recordWords
     pub answer-is : a ≡ valueFrom t (table .start) (lengthOf table) (table .size)
 
@@ -64,27 +64,27 @@ module _ (walk : Walk) (limit : ℕ) (t : List ℕ) (words : ℕ) where
   abbrev Behind : Answer → Type 0
   Behind a = IsValue (a .state) → Accepted a
 
-  judged-behind : ltb 4 (inputs t) && ltb 4 (outputs t) ≡ false → matrixJudged t ≡ good → (table : Table) → tableOf t ≡ is table → (j : Judged) → runsJudged walk limit t (planOf t) ≡ j → Behind (orRefused j (recordedOf t words (table .start) (lengthOf table) (table .size)))
+  judged-behind : ltb 4 (inputs t) && ltb 4 (outputs t) ≡ false → matrixChecked t ≡ good tt → (table : Table) → colourTableOf t ≡ good table → (j : Checked Unit) → runsChecked walk limit t (planOf t) ≡ j → Behind (orRefused j (recordedOf t words (table .start) (lengthOf table) (table .size)))
   unfolding recordedOf
-  judged-behind few m table e good r =
+  judged-behind few m table e (good _) r =
       each Behind (ltb (words / recordWords) (recordsNeeded t)) _ _ (λ _ v. not-refused refl v)
       (λ l v. record { few-channels = few; matrix-good = m; table = table; table-is = e; runs-good = r; room = ltb-false (words / recordWords) (recordsNeeded t) l; answer-is = refl })
   judged-behind few m table e (bad n) r = λ v. not-refused refl v
 
-  table-behind : ltb 4 (inputs t) && ltb 4 (outputs t) ≡ false → matrixJudged t ≡ good → (x : Seen) → tableOf t ≡ x → Behind (withTable walk limit t words x)
-  unfolding judgedOf
-  table-behind few m (is table) e = judged-behind few m table e (runsJudged walk limit t (planOf t)) refl
-  table-behind few m (no n) e = λ v. not-refused refl v
+  table-behind : ltb 4 (inputs t) && ltb 4 (outputs t) ≡ false → matrixChecked t ≡ good tt → (x : Checked Table) → colourTableOf t ≡ x → Behind (withTable walk limit t words x)
+  unfolding checkedOf
+  table-behind few m (good table) e = judged-behind few m table e (runsChecked walk limit t (planOf t)) refl
+  table-behind few m (bad n) e = λ v. not-refused refl v
 
-  matrix-behind : ltb 4 (inputs t) && ltb 4 (outputs t) ≡ false → (j : Judged) → matrixJudged t ≡ j → Behind (orRefused j (withTable walk limit t words (tableOf t)))
-  matrix-behind few good m = table-behind few m (tableOf t) refl
+  matrix-behind : ltb 4 (inputs t) && ltb 4 (outputs t) ≡ false → (j : Checked Unit) → matrixChecked t ≡ j → Behind (orRefused j (withTable walk limit t words (colourTableOf t)))
+  matrix-behind few (good _) m = table-behind few m (colourTableOf t) refl
   matrix-behind few (bad n) m = λ v. not-refused refl v
 
   pub accepted : IsValue (abmOf walk limit t words .state) → Accepted (abmOf walk limit t words)
   unfolding abmOf IsValue
   accepted =
       each Behind (ltb 4 (inputs t) && ltb 4 (outputs t)) _ _ (λ _ v. absurd v)
-      (λ few. matrix-behind few (matrixJudged t) refl)
+      (λ few. matrix-behind few (matrixChecked t) refl)
 
 -- ---- a tag in its profile
 
@@ -111,13 +111,13 @@ either-type t = by (eqb (u32At t 0) (signatureOf Mab)) refl
 -- what `mft1` and `mft2` give is theirs
 mft-only : (t : List ℕ) (x : Mft·State) (f : Abm) → fromMft (answerOf t x) .state ≡ abm f → ⊥
 unfolding answerOf
-mft-only t (Mft·State.value g) f h = let z : _≡_ {A = ℕ} 0 1 = cc in omega arith
-mft-only t (Mft·State.refused n) f h = let z : _≡_ {A = ℕ} 0 1 = cc in omega arith
+mft-only t (Mft·State.value g) f h = never cc
+mft-only t (Mft·State.refused n) f h = never cc
 
 mft-read : (t : List ℕ) (x : Mft·State) (f : Fields) → fromMft (answerOf t x) .state ≡ mft f → x ≡ Mft·State.value f
 unfolding answerOf
 mft-read t (Mft·State.value g) f h = let e : g ≡ f = cc in ap Mft·State.value e
-mft-read t (Mft·State.refused n) f h = let z : _≡_ {A = ℕ} 0 1 = cc in absurd (omega arith)
+mft-read t (Mft·State.refused n) f h = never cc
 
 module _ (walk : Walk) (limit points : ℕ) (t : List ℕ) (words : ℕ) where
   -- and what `mAB ` and `mBA ` give is theirs
@@ -126,7 +126,7 @@ module _ (walk : Walk) (limit points : ℕ) (t : List ℕ) (words : ℕ) where
   abm-only f h =
       let v = accepted walk limit t words (mft-value h) in
       let e = ap (λ (a : Answer). a .state) (sym (v .answer-is)) ∙ h in
-      let z : _≡_ {A = ℕ} 0 1 = cc in omega arith
+      never cc
 
   abbrev ByAbm : Answer → Type 0
   ByAbm a = (f : Abm) → a .state ≡ abm f → ((u32At t 0 ≡ signatureOf Mab) ⊎ (u32At t 0 ≡ signatureOf Mba)) × (a ≡ abmOf walk limit t words)

@@ -11,28 +11,29 @@ use lib.Dec.{ltb, eqb}
 use lib.ListN.{length, getD, take, drop, replicate}
 use lib.Seq.{take-take}
 use borrow.Author.Tests.{ltb-false, eqb-true, eqb-false, eq-eqb, ne-eqb}
+use Rattle.fields.proofs.Never.{never}
+use Rattle.fields.specs.Checked.{Checked, good}
 use Rattle.fields.specs.Place.{countedSize}
 use Rattle.fields.specs.Bytes.{u32At, bytesAt, wordsAt}
 use Rattle.fields.specs.Tag.{signatureOf}
 use Rattle.fields.specs.declared.Kind.the-variants.{Mab, Mba}
 use Rattle.fields.proofs.Choice.{each}
 use Rattle.fields.proofs.Words.{bytes-part}
-use Rattle.lut_clut_meaning.specs.Clut.{is, clutOf}
-use Rattle.lut_clut_meaning.specs.Table.{Table, lengthOf, inGrid, numberOf}
+use Rattle.lut_clut_meaning.specs.Clut.{clutOf}
+use Rattle.lut_clut_meaning.specs.Table.{Table, lengthOf, inGrid, entryNumber}
 use Rattle.lut_clut_meaning.proofs.Laid.{accepted as laid-out}
 use Rattle.lut_clut_meaning.proofs.Grid.{entry-below}
 use Rattle.lut_clut_meaning.proofs.Inside.{inside}
 use Rattle.curve_meaning.specs.declared.Walk.{Walk}
 use Rattle.lut_mft_meaning.specs.Answer.{Fields, answerOf}
 use Rattle.lut_mft_meaning.proofs.Inside.{Inside as MftInside, inside as inside-mft}
-use Rattle.lut_run_meaning.specs.Run.{Placed, Stands, Each}
+use Rattle.lut_run_meaning.specs.Run.{Placed, CurveStands, Each}
 use Rattle.lut_run_meaning.proofs.Runs.{run-inside}
-use Rattle.lut_meaning.specs.Abm.{noTable, tableOf, valueFrom, toldTable, abmOf}
+use Rattle.lut_meaning.specs.Abm.{noTable, colourTableOf, valueFrom, toldTable, abmOf}
 use Rattle.lut_meaning.specs.Answer.{Abm, mft, abm, Answer}
 use Rattle.lut_meaning.specs.Layout.{recordsNeeded, toPcs, inputs, outputs, matrixOffset, clutOffset, aOffset, mOffset, bOffset, aCurves, mCurves, bCurves, planOf, identity, matrixOf, biasOf, gridOf}
 use Rattle.lut_meaning.specs.Lut.{tagOf, lutOf}
-use Rattle.lut_meaning.specs.Parts.{curvesOf, matrixJudged}
-use Rattle.lut_meaning.specs.Judged.{Judged, good}
+use Rattle.lut_meaning.specs.Parts.{curvesOf, matrixChecked}
 use Rattle.lut_meaning.proofs.Found.{abm-found, mft-found}
 use Rattle.lut_meaning.proofs.Needed.{needed-curves}
 
@@ -42,18 +43,18 @@ each-append P [] m x y = y
 each-append P (c ∷ k) m x y = (x .0, each-append P k m (x .1) y)
 
 -- every curve that a walk meets stands in the tag
-pub curves-inside : (walk : Walk) (limit : ℕ) (t : List ℕ) → Each (Stands limit t) (curvesOf walk limit t (planOf t))
+pub curves-inside : (walk : Walk) (limit : ℕ) (t : List ℕ) → Each (CurveStands limit t) (curvesOf walk limit t (planOf t))
 unfolding curvesOf planOf
 curves-inside walk limit t =
     each-append _ _ _ (each-append _ _ _ (run-inside walk limit t (aOffset t) (aCurves t)) (run-inside walk limit t (mOffset t) (mCurves t))) (run-inside walk limit t (bOffset t) (bCurves t))
 
 -- a matrix that is good is not there, or lies in the tag
-pub matrix-inside : (t : List ℕ) → matrixJudged t ≡ good → (matrixOffset t ≡ 0) ⊎ (matrixOffset t + 48 ≤ length t)
-unfolding matrixJudged
+pub matrix-inside : (t : List ℕ) → matrixChecked t ≡ good tt → (matrixOffset t ≡ 0) ⊎ (matrixOffset t + 48 ≤ length t)
+unfolding matrixChecked
 matrix-inside t =
-    let P : Judged → Type 0 = λ j. j ≡ good → (matrixOffset t ≡ 0) ⊎ (matrixOffset t + 48 ≤ length t) in
+    let P : Checked Unit → Type 0 = λ j. j ≡ good tt → (matrixOffset t ≡ 0) ⊎ (matrixOffset t + 48 ≤ length t) in
     each P (eqb (matrixOffset t) 0) _ _ (λ e h. inl (eqb-true (matrixOffset t) 0 e))
-    (λ _. each P (ltb (length t) (matrixOffset t + 48)) _ _ (λ _ h. let z : _≡_ {A = ℕ} 0 1 = cc in absurd (omega arith))
+    (λ _. each P (ltb (length t) (matrixOffset t + 48)) _ _ (λ _ h. never cc)
     (λ f h. inr (ltb-false (length t) (matrixOffset t + 48) f)))
 
 -- a matrix and a bias that are answered: none, or those that stand there
@@ -62,7 +63,7 @@ MatrixTold t matrix bias =
     ((matrixOffset t ≡ 0) × (matrix ≡ identity) × (bias ≡ replicate 3 0))
     ⊎ ((matrixOffset t ≡ 0 → ⊥) × (matrixOffset t + 48 ≤ length t) × (matrix ≡ wordsAt t (matrixOffset t) 9) × (bias ≡ wordsAt t (matrixOffset t + 36) 3))
 
-pub matrix-told : (t : List ℕ) → matrixJudged t ≡ good → MatrixTold t (matrixOf t) (biasOf t)
+pub matrix-told : (t : List ℕ) → matrixChecked t ≡ good tt → MatrixTold t (matrixOf t) (biasOf t)
 unfolding matrixOf biasOf
 matrix-told t g = by (eqb (matrixOffset t) 0) refl (matrix-inside t g)
   where
@@ -72,19 +73,19 @@ matrix-told t g = by (eqb (matrixOffset t) 0) refl (matrix-inside t g)
     by false e (inr l) = inr (eqb-false (matrixOffset t) 0 e, l, refl, refl)
 
 -- the data of a table that is there lie in the tag, and one that is not has none
-pub table-inside : (t : List ℕ) (table : Table) → tableOf t ≡ is table → table .start + lengthOf table ≤ length t
-unfolding tableOf
+pub table-inside : (t : List ℕ) (table : Table) → colourTableOf t ≡ good table → table .start + lengthOf table ≤ length t
+unfolding colourTableOf
 table-inside t table = by (eqb (clutOffset t) 0)
   where
     none : noTable .start + lengthOf noTable ≤ length t
     none = omega arith
 
-    by : (b : Bool) → cond b (is noTable) (clutOf t (clutOffset t) (inputs t) (outputs t)) ≡ is table → table .start + lengthOf table ≤ length t
+    by : (b : Bool) → cond b (good noTable) (clutOf t (clutOffset t) (inputs t) (outputs t)) ≡ good table → table .start + lengthOf table ≤ length t
     by true h = let e : noTable ≡ table = cc in subst (λ (x : Table). x .start + lengthOf x ≤ length t) e none
     by false h = inside t (clutOffset t) (inputs t) (outputs t) table h .data-in-tag
 
 -- and so do its sixteen grid bytes
-pub grid-inside : (t : List ℕ) (table : Table) → clutOf t (clutOffset t) (inputs t) (outputs t) ≡ is table → clutOffset t + 16 ≤ length t
+pub grid-inside : (t : List ℕ) (table : Table) → clutOf t (clutOffset t) (inputs t) (outputs t) ≡ good table → clutOffset t + 16 ≤ length t
 grid-inside t table h =
     let a = laid-out t (clutOffset t) (inputs t) (outputs t) table h .laid in
     omega (arith, a .whole, a .start-is)
@@ -95,26 +96,26 @@ GridTold t table grid =
     ((clutOffset t ≡ 0) × (table ≡ noTable) × (grid ≡ replicate 16 0))
     ⊎ ((clutOffset t ≡ 0 → ⊥) × (table .start ≡ clutOffset t + 20) × (table .size ≡ getD t (clutOffset t + 16) 0) × (grid ≡ take 16 (drop (clutOffset t) t)))
 
-pub grid-told : (t : List ℕ) (table : Table) → tableOf t ≡ is table → GridTold t table (gridOf t)
-unfolding tableOf gridOf
+pub grid-told : (t : List ℕ) (table : Table) → colourTableOf t ≡ good table → GridTold t table (gridOf t)
+unfolding colourTableOf gridOf
 grid-told t table = by (eqb (clutOffset t) 0) refl
   where
-    by : (b : Bool) → eqb (clutOffset t) 0 ≡ b → tableOf t ≡ is table → GridTold t table (gridOf t)
+    by : (b : Bool) → eqb (clutOffset t) 0 ≡ b → colourTableOf t ≡ good table → GridTold t table (gridOf t)
     by true e h =
-        let none : is noTable ≡ is table = rw e at h in
+        let none : good noTable ≡ good table = rw e at h in
         let same : table ≡ noTable = cc in
         rw e (inl (eqb-true (clutOffset t) 0 e, same, refl))
     by false e h =
-        let there : clutOf t (clutOffset t) (inputs t) (outputs t) ≡ is table = rw e at h in
+        let there : clutOf t (clutOffset t) (inputs t) (outputs t) ≡ good table = rw e at h in
         let a = laid-out t (clutOffset t) (inputs t) (outputs t) table there .laid in
         rw e (inr (eqb-false (clutOffset t) 0 e, a .start-is, a .size-is, bytes-part t _ _ (grid-inside t table there)))
 
 -- a table that is there has the grid and the output channels that are answered
-table-told : (t : List ℕ) (table : Table) → tableOf t ≡ is table → 1 ≤ table .size → (take (min (inputs t) 16) (gridOf t) ≡ table .grid) × (outputs t ≡ table .outputs)
-unfolding tableOf gridOf
+table-told : (t : List ℕ) (table : Table) → colourTableOf t ≡ good table → 1 ≤ table .size → (take (min (inputs t) 16) (gridOf t) ≡ table .grid) × (outputs t ≡ table .outputs)
+unfolding colourTableOf gridOf
 table-told t table = by (eqb (clutOffset t) 0)
   where
-    by : (b : Bool) → cond b (is noTable) (clutOf t (clutOffset t) (inputs t) (outputs t)) ≡ is table → 1 ≤ table .size → (take (min (inputs t) 16) (cond b (replicate 16 0) (bytesAt t (clutOffset t) 16)) ≡ table .grid) × (outputs t ≡ table .outputs)
+    by : (b : Bool) → cond b (good noTable) (clutOf t (clutOffset t) (inputs t) (outputs t)) ≡ good table → 1 ≤ table .size → (take (min (inputs t) 16) (cond b (replicate 16 0) (bytesAt t (clutOffset t) 16)) ≡ table .grid) × (outputs t ≡ table .outputs)
     by true h l = let e : 0 ≡ table .size = cc in absurd (omega arith)
     by false h l =
         let a = laid-out t (clutOffset t) (inputs t) (outputs t) table h .laid in
@@ -140,7 +141,7 @@ direction-told t (inr e) = inr (e, ne-eqb (u32At t 0) (signatureOf Mab) (λ z. o
 -- ---- `mAB ` and `mBA `, told of the answer's own numbers
 pub record Inside (walk : Walk) (limit : ℕ) (p : List ℕ) (entry size : ℕ) (a : Answer) (f : Abm) : Type 0 where
   pub tag-in-profile : entry + countedSize size ≤ length p
-  pub curves-in-tag : Each (Stands limit (tagOf p entry size)) (curvesOf walk limit (tagOf p entry size) (planOf (tagOf p entry size)))
+  pub curves-in-tag : Each (CurveStands limit (tagOf p entry size)) (curvesOf walk limit (tagOf p entry size) (planOf (tagOf p entry size)))
   pub curves-counted : length (curvesOf walk limit (tagOf p entry size) (planOf (tagOf p entry size))) ≡ f .a + f .m + f .b
   pub direction-is : DirectionTold (tagOf p entry size) (f .toPcs)
   pub inputs-are : f .inputs ≡ inputs (tagOf p entry size)
@@ -152,7 +153,7 @@ pub record Inside (walk : Walk) (limit : ℕ) (p : List ℕ) (entry size : ℕ) 
   pub bytes-are : f .bytes ≡ lengthOf table
   pub size-is : f .size ≡ table .size
   pub table-in-tag : f .start + f .bytes ≤ length (tagOf p entry size)
-  pub entry-in-table : 1 ≤ f .size → (index : List ℕ) (channel : ℕ) → inGrid (toldTable (a .grid) f .grid) index ≡ true → channel < f .outputs → numberOf (toldTable (a .grid) f) index channel * f .size + f .size ≤ f .bytes
+  pub entry-in-table : 1 ≤ f .size → (index : List ℕ) (channel : ℕ) → inGrid (toldTable (a .grid) f .grid) index ≡ true → channel < f .outputs → entryNumber (toldTable (a .grid) f) index channel * f .size + f .size ≤ f .bytes
 
 pub lut-inside : (walk : Walk) (limit points : ℕ) (p : List ℕ) (entry size words : ℕ) (f : Abm) → lutOf walk limit points p entry size words .state ≡ abm f → Inside walk limit p entry size (lutOf walk limit points p entry size words) f
 unfolding valueFrom recordsNeeded

@@ -11,25 +11,26 @@ use lib.Dec.{ltb}
 use lib.ListN.{length, drop, length-append}
 use lib.Seq.{drop-append-le}
 use borrow.Author.Tests.{ltb-false, le-ltb}
+use Rattle.fields.proofs.Never.{never}
+use Rattle.fields.specs.Checked.{Checked, good, bad}
 use Rattle.fields.specs.Place.{countedSize}
 use Rattle.fields.proofs.Append.{longer, part-append}
 use Rattle.fields.proofs.Grow.{Grows, choose, passes}
-use Rattle.lut_clut_meaning.specs.Clut.{Seen, is, no}
-use Rattle.lut_clut_meaning.specs.Table.{lengthOf}
+use Rattle.lut_clut_meaning.specs.Table.{Table, lengthOf}
 use Rattle.curve_meaning.specs.Shape.{recordWords}
 use Rattle.curve_meaning.specs.declared.Walk.{Walk}
 use Rattle.lut_mft_meaning.specs.Answer.{State as Mft·State, answerOf}
 use Rattle.lut_mft_meaning.specs.Layout.{isMft}
 use Rattle.lut_mft_meaning.specs.Mft.{mftOf}
 use Rattle.lut_mft_meaning.proofs.More.{Is as MftIs, more-limit as mft-limit}
-use Rattle.lut_run_meaning.specs.Run.{End, whole, stopped, Ran, runAt, recordsOf}
+use Rattle.lut_run_meaning.specs.Run.{RunEnd, whole, stopped, Run, runAt, recordsOf}
 use Rattle.lut_run_meaning.proofs.Limit.{Over, run-limit}
-use Rattle.lut_meaning.specs.Abm.{tableOf, recordedOf, judgedOf, withTable, abmOf}
-use Rattle.lut_meaning.specs.Answer.{State, mft, abm, absent, refused, Answer, fromMft, orRefused, leftBy}
+use Rattle.lut_meaning.specs.Abm.{colourTableOf, recordedOf, checkedOf, withTable, abmOf}
+use Rattle.lut_meaning.specs.Answer.{State, mft, abm, absent, refused, Answer, fromMft, orRefused, slotsWith}
 use Rattle.lut_meaning.specs.Layout.{inputs, outputs, planOf, recordsNeeded}
-use Rattle.lut_meaning.specs.Lut.{tagOf, isAbm, byType, lutOf, leftOf}
-use Rattle.lut_meaning.specs.Parts.{runA, runM, runB, runsJudged, curvesOf, matrixJudged}
-use Rattle.lut_meaning.specs.Judged.{Judged, good, bad, ended, andThen}
+use Rattle.lut_meaning.specs.Lut.{tagOf, isAbm, byType, lutOf, slotsAfter}
+use Rattle.lut_meaning.specs.Parts.{runA, runM, runB, runsChecked, curvesOf, matrixChecked}
+use Rattle.lut_meaning.specs.Checks.{ended, andThen}
 use Rattle.lut_meaning.specs.declared.Plan.{Plan}
 use Rattle.lut_meaning.proofs.Found.{IsValue, not-refused, abm-found}
 use Rattle.lut_meaning.proofs.Shared.{a-whole, m-whole, b-whole, all-length}
@@ -53,47 +54,47 @@ same-tag p q entry size h = part-append p q entry (countedSize size) h
 -- ---- a higher limit
 
 -- what a part that may change makes of the answer
-grow-end : (r s : Ran) (next next' : Judged) → Grows Over r s → Grows (λ j. j ≡ bad 10) next next' → Grows (λ j. j ≡ bad 10) (andThen (ended (r .end)) next) (andThen (ended (s .end)) next')
+grow-end : (r s : Run) (next next' : Checked Unit) → Grows Over r s → Grows (λ j. j ≡ bad 10) next next' → Grows (λ j. j ≡ bad 10) (andThen (ended (r .end)) next) (andThen (ended (s .end)) next')
 unfolding ended
 grow-end r s next next' (inl o) g = inl (rw (o .is-ten))
 grow-end r s next next' (inr e) g = rw e (by (r .end))
   where
-    by : (x : End) → Grows (λ j. j ≡ bad 10) (andThen (ended x) next) (andThen (ended x) next')
+    by : (x : RunEnd) → Grows (λ j. j ≡ bad 10) (andThen (ended x) next) (andThen (ended x) next')
     by whole = g
     by (stopped n at) = inr refl
 
-last-end : (r s : Ran) → Grows Over r s → Grows (λ j. j ≡ bad 10) (ended (r .end)) (ended (s .end))
+last-end : (r s : Run) → Grows Over r s → Grows (λ j. j ≡ bad 10) (ended (r .end)) (ended (s .end))
 unfolding ended
 last-end r s (inl o) = inl (rw (o .is-ten))
 last-end r s (inr e) = inr (rw e)
 
-runs-limit : (walk : Walk) (low high : ℕ) (t : List ℕ) (p : Plan) → low ≤ high → Grows (λ j. j ≡ bad 10) (runsJudged walk low t p) (runsJudged walk high t p)
-unfolding runsJudged
+runs-limit : (walk : Walk) (low high : ℕ) (t : List ℕ) (p : Plan) → low ≤ high → Grows (λ j. j ≡ bad 10) (runsChecked walk low t p) (runsChecked walk high t p)
+unfolding runsChecked
 runs-limit walk low high t p h =
     grow-end (runA walk low t p) (runA walk high t p) _ _ (run-limit walk low high t h (p .a .0) (p .na))
     (grow-end (runM walk low t p) (runM walk high t p) _ _ (run-limit walk low high t h (p .m .0) (p .nm))
     (last-end (runB walk low t p) (runB walk high t p) (run-limit walk low high t h (p .b .0) (p .nb))))
 
-judged-grows : (j k : Judged) (a : Answer) → Grows (λ j. j ≡ bad 10) j k → Grows (Is 10) (orRefused j a) (orRefused k a)
+judged-grows : (j k : Checked Unit) (a : Answer) → Grows (λ j. j ≡ bad 10) j k → Grows (Is 10) (orRefused j a) (orRefused k a)
 judged-grows j k a (inl e) = inl (rw e)
 judged-grows j k a (inr e) = inr (rw e)
 
 -- the same verdict before a part that may change
-before : (n : ℕ) (j : Judged) (a b : Answer) → Grows (Is n) a b → Grows (Is n) (orRefused j a) (orRefused j b)
-before n good a b g = g
+before : (n : ℕ) (j : Checked Unit) (a b : Answer) → Grows (Is n) a b → Grows (Is n) (orRefused j a) (orRefused j b)
+before n (good _) a b g = g
 before n (bad m) a b g = inr refl
 
 -- what the judged parts of every tag do, and `mft1` and `mft2`, tags and profiles do: with other limits, and other slots
-module _ (n : ℕ) (walk : Walk) (low high : ℕ) (points more : ℕ) (few many : ℕ) (g : (t : List ℕ) (start bytes size : ℕ) → Grows (Is n) (judgedOf walk low t few start bytes size) (judgedOf walk high t many start bytes size)) (m : (t : List ℕ) → Grows (Is n) (fromMft (answerOf t (mftOf points t))) (fromMft (answerOf t (mftOf more t)))) where
-  table-grows : (t : List ℕ) (x : Seen) → Grows (Is n) (withTable walk low t few x) (withTable walk high t many x)
-  table-grows t (is table) = g t (table .start) (lengthOf table) (table .size)
-  table-grows t (no m) = inr refl
+module _ (n : ℕ) (walk : Walk) (low high : ℕ) (points more : ℕ) (few many : ℕ) (g : (t : List ℕ) (start bytes size : ℕ) → Grows (Is n) (checkedOf walk low t few start bytes size) (checkedOf walk high t many start bytes size)) (m : (t : List ℕ) → Grows (Is n) (fromMft (answerOf t (mftOf points t))) (fromMft (answerOf t (mftOf more t)))) where
+  table-grows : (t : List ℕ) (x : Checked Table) → Grows (Is n) (withTable walk low t few x) (withTable walk high t many x)
+  table-grows t (good table) = g t (table .start) (lengthOf table) (table .size)
+  table-grows t (bad m) = inr refl
 
   abm-grows : (t : List ℕ) → Grows (Is n) (abmOf walk low t few) (abmOf walk high t many)
   unfolding abmOf
   abm-grows t =
       choose (Is n) (ltb 4 (inputs t) && ltb 4 (outputs t)) (λ _. inr refl)
-      (λ _. before n (matrixJudged t) _ _ (table-grows t (tableOf t)))
+      (λ _. before n (matrixChecked t) _ _ (table-grows t (colourTableOf t)))
 
   type-grows : (t : List ℕ) → Grows (Is n) (byType walk low points t few) (byType walk high more t many)
   unfolding byType
@@ -108,8 +109,8 @@ module _ (n : ℕ) (walk : Walk) (low high : ℕ) (points more : ℕ) (few many 
       (λ _. choose (Is n) (ltb (countedSize size) 48) (λ _. inr refl) (λ _. type-grows (tagOf p entry size)))
 
 module _ (walk : Walk) (low high : ℕ) (h : low ≤ high) (points : ℕ) where
-  judged-limit : (words : ℕ) (t : List ℕ) (start bytes size : ℕ) → Grows (Is 10) (judgedOf walk low t words start bytes size) (judgedOf walk high t words start bytes size)
-  unfolding judgedOf
+  judged-limit : (words : ℕ) (t : List ℕ) (start bytes size : ℕ) → Grows (Is 10) (checkedOf walk low t words start bytes size) (checkedOf walk high t words start bytes size)
+  unfolding checkedOf
   judged-limit words t start bytes size = judged-grows _ _ (recordedOf t words start bytes size) (runs-limit walk low high t (planOf t) h)
 
   pub more-limit : (p : List ℕ) (entry size words : ℕ) → Grows (Is 10) (lutOf walk low points p entry size words) (lutOf walk high points p entry size words)
@@ -146,9 +147,9 @@ module _ (walk : Walk) (limit points : ℕ) (few many : ℕ) (h : few ≤ many) 
       passes (Is 14) (ltb (few / recordWords) (recordsNeeded t)) (ltb (many / recordWords) (recordsNeeded t))
       (λ e. le-ltb (many / recordWords) (recordsNeeded t) (omega (arith, ltb-false (few / recordWords) (recordsNeeded t) e, h))) refl (λ _. inr refl)
 
-  judged-slots : (t : List ℕ) (start bytes size : ℕ) → Grows (Is 14) (judgedOf walk limit t few start bytes size) (judgedOf walk limit t many start bytes size)
-  unfolding judgedOf
-  judged-slots t start bytes size = before 14 (runsJudged walk limit t (planOf t)) _ _ (recorded-slots t start bytes size)
+  judged-slots : (t : List ℕ) (start bytes size : ℕ) → Grows (Is 14) (checkedOf walk limit t few start bytes size) (checkedOf walk limit t many start bytes size)
+  unfolding checkedOf
+  judged-slots t start bytes size = before 14 (runsChecked walk limit t (planOf t)) _ _ (recorded-slots t start bytes size)
 
   pub more-slots : (p : List ℕ) (entry size : ℕ) → Grows (Is 14) (lutOf walk limit points p entry size few) (lutOf walk limit points p entry size many)
   more-slots = lut-grows 14 walk limit limit points points few many judged-slots (λ t. inr refl)
@@ -158,11 +159,11 @@ module _ (walk : Walk) (limit points : ℕ) (few many : ℕ) (h : few ≤ many) 
 -- a whole run is kept by a higher limit
 run-stays : (walk : Walk) (low high : ℕ) (t : List ℕ) → low ≤ high → (at n : ℕ) → runAt walk low t at n .end ≡ whole → runAt walk high t at n ≡ runAt walk low t at n
 run-stays walk low high t h at n w = elim (run-limit walk low high t h at n) [
-  | inl o ↦ (let e = o .is-ten in let z : _≡_ {A = ℕ} 0 1 = cc in absurd (omega arith))
+  | inl o ↦ (let e = o .is-ten in never cc)
   | inr e ↦ e
 ]
 
-curves-stay : (walk : Walk) (low high : ℕ) (t : List ℕ) (p : Plan) → low ≤ high → runsJudged walk low t p ≡ good → curvesOf walk high t p ≡ curvesOf walk low t p
+curves-stay : (walk : Walk) (low high : ℕ) (t : List ℕ) (p : Plan) → low ≤ high → runsChecked walk low t p ≡ good tt → curvesOf walk high t p ≡ curvesOf walk low t p
 unfolding curvesOf
 curves-stay walk low high t p h g =
     rw (run-stays walk low high t h (p .a .0) (p .na) (a-whole walk low t p g), run-stays walk low high t h (p .m .0) (p .nm) (m-whole walk low t p g), run-stays walk low high t h (p .b .0) (p .nb) (b-whole walk low t p g))
@@ -179,7 +180,7 @@ value-kept e v = rw e v
 -- before, those of x as they were
 pub record Stays (walk : Walk) (low high : ℕ) (points more : ℕ) (p q : List ℕ) (entry size : ℕ) (slots x : List ℕ) : Type 0 where
   pub answer-stays : lutOf walk high more (p ++ q) entry size (length (slots ++ x)) ≡ lutOf walk low points p entry size (length slots)
-  pub slots-stay : leftOf walk high more (p ++ q) entry size (slots ++ x) ≡ leftOf walk low points p entry size slots ++ x
+  pub slots-stay : slotsAfter walk high more (p ++ q) entry size (slots ++ x) ≡ slotsAfter walk low points p entry size slots ++ x
 
 module _ (walk : Walk) (low high : ℕ) (l : low ≤ high) (points more : ℕ) (m : points ≤ more) (p q : List ℕ) (entry size : ℕ) (slots x : List ℕ) where
   abbrev t : List ℕ
@@ -200,15 +201,15 @@ module _ (walk : Walk) (low high : ℕ) (l : low ≤ high) (points more : ℕ) (
       let e₄ = kept _ _ 1 v₃ (more-bytes walk high more p q entry size (length (slots ++ x))) in
       e₄ ∙ e₃ ∙ e₂ ∙ e₁
 
-  slots-kept : (s : State) → before-all .state ≡ s → IsValue s → leftBy s (recordsOf (curvesOf walk high (tagOf (p ++ q) entry size) (planOf (tagOf (p ++ q) entry size)))) (slots ++ x) ≡ leftBy s (recordsOf (curvesOf walk low t (planOf t))) slots ++ x
+  slots-kept : (s : State) → before-all .state ≡ s → IsValue s → slotsWith s (recordsOf (curvesOf walk high (tagOf (p ++ q) entry size) (planOf (tagOf (p ++ q) entry size)))) (slots ++ x) ≡ slotsWith s (recordsOf (curvesOf walk low t (planOf t))) slots ++ x
   unfolding IsValue planOf recordsNeeded
   slots-kept (mft f) h v = refl
   slots-kept (abm f) h v =
       let w = abm-found walk low points p entry size (length slots) f h in
-      let good = w .behind .runs-good in
+      let fine = w .behind .runs-good in
       let rs : List ℕ = recordsOf (curvesOf walk low t (planOf t)) in
-      let n : length rs ≤ length slots = omega (arith, all-length walk low t (planOf t) good, w .behind .room) in
-      rw (same-tag p q entry size (w .tag-in-profile), curves-stay walk low high t (planOf t) l good, drop-append-le (length rs) slots x n)
+      let n : length rs ≤ length slots = omega (arith, all-length walk low t (planOf t) fine, w .behind .room) in
+      rw (same-tag p q entry size (w .tag-in-profile), curves-stay walk low high t (planOf t) l fine, drop-append-le (length rs) slots x n)
       (sym (append-assoc rs (drop (length rs) slots) x))
   slots-kept absent h v = absurd v
   slots-kept (refused n) h v = absurd v

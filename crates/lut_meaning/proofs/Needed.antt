@@ -8,17 +8,17 @@ use mathlib.Core.List.{List, _++_}
 use lib.Dec.{ltb, eqb}
 use lib.ListN.{length, length-append, List·getD-append}
 use borrow.Author.Tests.{ltb-false}
+use Rattle.fields.specs.Checked.{good}
 use Rattle.fields.proofs.Append.{u32-append}
 use Rattle.fields.proofs.Choice.{each, second-fails}
 use Rattle.curve_meaning.specs.declared.Walk.{Walk}
 use Rattle.lut_run_meaning.proofs.Runs.{run-count}
 use Rattle.lut_meaning.specs.Layout.{toPcs, inputs, outputs, present, deviceChannels, spaceChannels, aOffset, mOffset, bOffset, aCurves, mCurves, bCurves, planOf, recordsNeeded}
-use Rattle.lut_meaning.specs.Parts.{runsJudged, curvesOf}
-use Rattle.lut_meaning.specs.Judged.{good}
+use Rattle.lut_meaning.specs.Parts.{runsChecked, curvesOf}
 use Rattle.lut_meaning.proofs.Shared.{a-whole, m-whole, b-whole}
 
 -- as many records as curves
-pub needed-curves : (walk : Walk) (limit : ℕ) (t : List ℕ) → runsJudged walk limit t (planOf t) ≡ good → length (curvesOf walk limit t (planOf t)) ≡ recordsNeeded t
+pub needed-curves : (walk : Walk) (limit : ℕ) (t : List ℕ) → runsChecked walk limit t (planOf t) ≡ good tt → length (curvesOf walk limit t (planOf t)) ≡ recordsNeeded t
 unfolding curvesOf planOf recordsNeeded
 needed-curves walk limit t h =
     simp length-append

@@ -7,46 +7,48 @@ use mathlib.Core.Path.{_≡_, refl, _∙_, ap}
 use mathlib.Core.Bool.{false}
 use mathlib.Core.List.{List, _++_}
 use lib.ListN.{length, length-append}
+use Rattle.fields.proofs.Never.{never}
+use Rattle.fields.specs.Checked.{Checked, good, bad}
 use Rattle.fields.specs.Bytes.{u32At}
 use Rattle.fields.specs.Tag.{signatureOf}
 use Rattle.fields.specs.declared.Kind.the-variants.{Mab, Mba}
 use Rattle.curve_meaning.specs.Shape.{recordWords}
 use Rattle.curve_meaning.specs.declared.Walk.{Walk}
 use Rattle.lut_mft_meaning.specs.Layout.{isWide, isMft}
-use Rattle.lut_run_meaning.specs.Run.{End, whole, stopped, Ran, runAt, recordsOf}
+use Rattle.lut_run_meaning.specs.Run.{RunEnd, whole, stopped, Run, runAt, recordsOf}
 use Rattle.lut_run_meaning.proofs.Runs.{run-count}
 use Rattle.lut_run_meaning.proofs.Writing.{records-length, records-append}
-use Rattle.lut_meaning.specs.Judged.{Judged, good, bad, ended, andThen}
-use Rattle.lut_meaning.specs.Parts.{runA, runM, runB, runsJudged, curvesOf}
+use Rattle.lut_meaning.specs.Checks.{ended, andThen}
+use Rattle.lut_meaning.specs.Parts.{runA, runM, runB, runsChecked, curvesOf}
 use Rattle.lut_meaning.specs.declared.Plan.{Plan}
 
-ended-good : (e : End) → ended e ≡ good → e ≡ whole
+ended-good : (e : RunEnd) → ended e ≡ good tt → e ≡ whole
 unfolding ended
 ended-good whole h = refl
-ended-good (stopped n at) h = let z : _≡_ {A = ℕ} 0 1 = cc in absurd (omega arith)
+ended-good (stopped n at) h = never cc
 
-first-good : (j k : Judged) → andThen j k ≡ good → j ≡ good
-first-good good k h = refl
+first-good : (j k : Checked Unit) → andThen j k ≡ good tt → j ≡ good tt
+first-good (good _) k h = refl
 first-good (bad n) k h = h
 
-second-good : (j k : Judged) → andThen j k ≡ good → k ≡ good
-second-good good k h = h
-second-good (bad n) k h = let z : _≡_ {A = ℕ} 0 1 = cc in absurd (omega arith)
+second-good : (j k : Checked Unit) → andThen j k ≡ good tt → k ≡ good tt
+second-good (good _) k h = h
+second-good (bad n) k h = never cc
 
-module _ (walk : Walk) (limit : ℕ) (t : List ℕ) (p : Plan) (h : runsJudged walk limit t p ≡ good) where
-  abbrev ends : (Walk → ℕ → List ℕ → Plan → Ran) → Judged
+module _ (walk : Walk) (limit : ℕ) (t : List ℕ) (p : Plan) (h : runsChecked walk limit t p ≡ good tt) where
+  abbrev ends : (Walk → ℕ → List ℕ → Plan → Run) → Checked Unit
   ends run = ended (run walk limit t p .end)
 
   pub a-whole : runA walk limit t p .end ≡ whole
-  unfolding runsJudged
+  unfolding runsChecked
   a-whole = ended-good (runA walk limit t p .end) (first-good (ends runA) (andThen (ends runM) (ends runB)) h)
 
   pub m-whole : runM walk limit t p .end ≡ whole
-  unfolding runsJudged
+  unfolding runsChecked
   m-whole = ended-good (runM walk limit t p .end) (first-good (ends runM) (ends runB) (second-good (ends runA) (andThen (ends runM) (ends runB)) h))
 
   pub b-whole : runB walk limit t p .end ≡ whole
-  unfolding runsJudged
+  unfolding runsChecked
   b-whole = ended-good (runB walk limit t p .end) (second-good (ends runM) (ends runB) (second-good (ends runA) (andThen (ends runM) (ends runB)) h))
 
   -- as many words as a whole run has records

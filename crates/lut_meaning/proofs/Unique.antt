@@ -7,8 +7,8 @@ use Rattle.fields.proofs.Numbers.{nameOf, named}
 use Rattle.fields.proofs.Once.{once}
 use Rattle.curve_meaning.specs.declared.Walk.{Walk}
 use Rattle.lut_mft_meaning.proofs.Unique.{tableFrom}
-use Rattle.lut_meaning.specs.Answer.{Abm, State, mft, abm, absent, refused, Answer, stateFrom, paper}
-use Rattle.lut_meaning.specs.Lut.{Said}
+use Rattle.lut_meaning.specs.Answer.{Abm, State, mft, abm, absent, refused, Answer, stateFrom, inNumbers}
+use Rattle.lut_meaning.specs.Lut.{AnswerAndSlots}
 use Rattle.lut_meaning.specs.declared.AbmTable.{AbmTable}
 use Rattle.lut_meaning.specs.declared.Lut.{Lut}
 use Rattle.lut_meaning.specs.declared.LutAnswer.{LutAnswer}
@@ -43,12 +43,12 @@ back (LutAnswer.Refused why) = ap LutAnswer.Refused (named why)
 abbrev pub lutTo : Answer → Lut
 lutTo a = record { answer = answerTo (a .state); grid = a .grid; matrix = a .matrix; bias = a .bias }
 
-whole : (l : Lut) → lutTo (paper l) ≡ l
+whole : (l : Lut) → lutTo (inNumbers l) ≡ l
 whole l = rw (back (l .answer))
 
-pub unique : (a : Answer) (r s : Lut) → paper r ≡ a → paper s ≡ a → r ≡ s
-unique = once paper lutTo whole
+pub unique : (a : Answer) (r s : Lut) → inNumbers r ≡ a → inNumbers s ≡ a → r ≡ s
+unique = once inNumbers lutTo whole
 
 -- two calls of which the same is said have the same result and leave the same slots
-pub said-once : {walk : Walk} {limit : ℕ} {t : List ℕ} {a : Answer} {r q : Lut} {before after other : List ℕ} → Said walk limit t a r before after → Said walk limit t a q before other → (r ≡ q) × (after ≡ other)
-said-once {a = a} {r = r} {q = q} x y = (unique a r q (x .answer-is) (y .answer-is), x .left-is ∙ sym (y .left-is))
+pub said-once : {walk : Walk} {limit : ℕ} {t : List ℕ} {a : Answer} {r q : Lut} {before after other : List ℕ} → AnswerAndSlots walk limit t a r before after → AnswerAndSlots walk limit t a q before other → (r ≡ q) × (after ≡ other)
+said-once {a = a} {r = r} {q = q} x y = (unique a r q (x .answer-is) (y .answer-is), x .slots-are ∙ sym (y .slots-are))

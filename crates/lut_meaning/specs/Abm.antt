@@ -4,20 +4,21 @@ use mathlib.Core.Bool.{cond, _&&_}
 use mathlib.Core.List.{List, []}
 use lib.Dec.{ltb, eqb}
 use lib.ListN.{take}
-use Rattle.lut_clut_meaning.specs.Clut.{Seen, is, no, clutOf}
+use Rattle.fields.specs.Checked.{Checked, good, bad}
+use Rattle.lut_clut_meaning.specs.Clut.{clutOf}
 use Rattle.lut_clut_meaning.specs.Table.{Table, lengthOf}
 use Rattle.curve_meaning.specs.Shape.{recordWords}
 use Rattle.curve_meaning.specs.declared.Walk.{Walk}
 use Rattle.lut_meaning.specs.Answer.{Abm, abm, Answer, none, refuse, orRefused}
 use Rattle.lut_meaning.specs.Layout.{toPcs, inputs, outputs, clutOffset, aCurves, mCurves, bCurves, planOf, recordsNeeded, gridOf, matrixOf, biasOf}
-use Rattle.lut_meaning.specs.Parts.{runsJudged, matrixJudged}
+use Rattle.lut_meaning.specs.Parts.{runsChecked, matrixChecked}
 
 -- the colour table; one that is not there has no data, at 0
 abbrev pub noTable : Table
 noTable = record { grid = []; outputs = 0; start = 0; size = 0 }
 
-unfoldable pub tableOf : List ℕ → Seen
-tableOf t = cond (eqb (clutOffset t) 0) (is noTable) (clutOf t (clutOffset t) (inputs t) (outputs t))
+unfoldable pub colourTableOf : List ℕ → Checked Table
+colourTableOf t = cond (eqb (clutOffset t) 0) (good noTable) (clutOf t (clutOffset t) (inputs t) (outputs t))
 
 -- the answer for a tag that is good, with where the data of its colour table lie and the bytes of an entry
 unfoldable pub valueFrom : List ℕ → ℕ → ℕ → ℕ → Answer
@@ -51,18 +52,18 @@ recordedOf t words start bytes size =
     cond (ltb (words / recordWords) (recordsNeeded t)) (refuse 14) (valueFrom t start bytes size)
 
 -- once the colour table is good
-unfoldable pub judgedOf : Walk → ℕ → List ℕ → ℕ → ℕ → ℕ → ℕ → Answer
-judgedOf walk limit t words start bytes size =
-    orRefused (runsJudged walk limit t (planOf t)) (recordedOf t words start bytes size)
+unfoldable pub checkedOf : Walk → ℕ → List ℕ → ℕ → ℕ → ℕ → ℕ → Answer
+checkedOf walk limit t words start bytes size =
+    orRefused (runsChecked walk limit t (planOf t)) (recordedOf t words start bytes size)
 
 -- and of a colour table
-abbrev pub withTable : Walk → ℕ → List ℕ → ℕ → Seen → Answer
-withTable walk limit t words (is table) = judgedOf walk limit t words (table .start) (lengthOf table) (table .size)
-withTable walk limit t words (no n) = refuse n
+abbrev pub withTable : Walk → ℕ → List ℕ → ℕ → Checked Table → Answer
+withTable walk limit t words (good table) = checkedOf walk limit t words (table .start) (lengthOf table) (table .size)
+withTable walk limit t words (bad n) = refuse n
 
 -- a tag t
 unfoldable pub abmOf : Walk → ℕ → List ℕ → ℕ → Answer
 abmOf walk limit t words =
     cond (ltb 4 (inputs t) && ltb 4 (outputs t)) none (
-    orRefused (matrixJudged t) (
-    withTable walk limit t words (tableOf t)))
+    orRefused (matrixChecked t) (
+    withTable walk limit t words (colourTableOf t)))

@@ -3,9 +3,9 @@ use Prim.Native.Nat.{ℕ}
 use mathlib.Core.Bool.{Bool}
 use mathlib.Core.List.{List, _++_}
 use lib.ListN.{length, drop, replicate}
-use Rattle.fields.specs.Refusals.{numberOf}
+use Rattle.fields.specs.Checked.{Checked, good, bad}
+use Rattle.fields.specs.Refusals.{refusalNumber}
 use Rattle.lut_mft_meaning.specs.Answer.{Fields, State as Mft·State, Answer as Mft·Answer, fieldsFrom}
-use Rattle.lut_meaning.specs.Judged.{Judged, good, bad}
 use Rattle.lut_meaning.specs.declared.AbmTable.{AbmTable}
 use Rattle.lut_meaning.specs.declared.LutAnswer.{LutAnswer}
 use Rattle.lut_meaning.specs.declared.Lut.{Lut}
@@ -65,10 +65,10 @@ abbrev pub stateFrom : LutAnswer → State
 stateFrom (LutAnswer.Mft t) = mft (fieldsFrom t)
 stateFrom (LutAnswer.Abm t) = abm (tableFrom t)
 stateFrom LutAnswer.Absent = absent
-stateFrom (LutAnswer.Refused why) = refused (numberOf why)
+stateFrom (LutAnswer.Refused why) = refused (refusalNumber why)
 
-abbrev pub paper : Lut → Answer
-paper l = record { state = stateFrom (l .answer); grid = l .grid; matrix = l .matrix; bias = l .bias }
+abbrev pub inNumbers : Lut → Answer
+inNumbers l = record { state = stateFrom (l .answer); grid = l .grid; matrix = l .matrix; bias = l .bias }
 
 -- what is answered of `mft1` and `mft2`: no sixteen grid bytes, and no bias
 abbrev pub mftState : Mft·State → State
@@ -79,13 +79,13 @@ abbrev pub fromMft : Mft·Answer → Answer
 fromMft a = record { state = mftState (a .state); grid = replicate 16 0; matrix = a .matrix; bias = replicate 3 0 }
 
 -- a part that is refused refuses the tag
-abbrev pub orRefused : Judged → Answer → Answer
-orRefused good a = a
+abbrev pub orRefused : Checked Unit → Answer → Answer
+orRefused (good _) a = a
 orRefused (bad n) a = refuse n
 
 -- what is left in lent slots: the records of `mAB ` or `mBA ` in front, and everything else as it was
-abbrev pub leftBy : State → List ℕ → List ℕ → List ℕ
-leftBy (mft f) records slots = slots
-leftBy (abm t) records slots = records ++ drop (length records) slots
-leftBy absent records slots = slots
-leftBy (refused n) records slots = slots
+abbrev pub slotsWith : State → List ℕ → List ℕ → List ℕ
+slotsWith (mft f) records slots = slots
+slotsWith (abm t) records slots = records ++ drop (length records) slots
+slotsWith absent records slots = slots
+slotsWith (refused n) records slots = slots

@@ -12,7 +12,7 @@ use Rattle.curve_meaning.specs.declared.Walk.the-variants.{Crate, Book}
 use Rattle.lut_run_meaning.specs.Cases.{single, gamma}
 use Rattle.lut_mft_meaning.specs.Cases.{wideFields, oneToNine}
 use Rattle.lut_meaning.specs.Answer.{State, mft, abm, absent, refused, Answer}
-use Rattle.lut_meaning.specs.Lut.{lutOf, leftOf}
+use Rattle.lut_meaning.specs.Lut.{lutOf, slotsAfter}
 
 -- walk, profile and size, the lent words, and the answer and the words as they are left
 pub data Case : Type 0 where
@@ -21,7 +21,7 @@ pub data Case : Type 0 where
 unfoldable pub Holds : Case → Type 0
 Holds (gives walk profile size slots a left) =
     (lutOf walk houseEntries housePoints profile 0 size (length slots) ≡ a)
-    × (leftOf walk houseEntries housePoints profile 0 size slots ≡ left)
+    × (slotsAfter walk houseEntries housePoints profile 0 size slots ≡ left)
 
 unfoldable pub All : List Case → Type 0
 All [] = Unit

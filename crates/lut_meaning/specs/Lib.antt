@@ -1,4 +1,4 @@
-pub mod Judged
+pub mod Checks
 pub mod Layout
 pub mod Parts
 pub mod Answer

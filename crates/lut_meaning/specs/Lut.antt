@@ -15,7 +15,7 @@ use Rattle.lut_mft_meaning.specs.Layout.{isMft}
 use Rattle.lut_mft_meaning.specs.Mft.{mftOf}
 use Rattle.lut_run_meaning.specs.Run.{recordsOf}
 use Rattle.lut_meaning.specs.Abm.{abmOf}
-use Rattle.lut_meaning.specs.Answer.{Answer, refuse, fromMft, paper, leftBy}
+use Rattle.lut_meaning.specs.Answer.{Answer, refuse, fromMft, inNumbers, slotsWith}
 use Rattle.lut_meaning.specs.Layout.{planOf}
 use Rattle.lut_meaning.specs.Parts.{curvesOf}
 use Rattle.lut_meaning.specs.declared.Lut.{Lut}
@@ -42,12 +42,12 @@ lutOf walk limit points profile entry size words =
     byType walk limit points (tagOf profile entry size) words))
 
 -- what such a call leaves of the lent slots
-abbrev pub leftOf : Walk → ℕ → ℕ → List ℕ → ℕ → ℕ → List ℕ → List ℕ
-leftOf walk limit points profile entry size slots =
+abbrev pub slotsAfter : Walk → ℕ → ℕ → List ℕ → ℕ → ℕ → List ℕ → List ℕ
+slotsAfter walk limit points profile entry size slots =
     let t = tagOf profile entry size in
-    leftBy (lutOf walk limit points profile entry size (length slots) .state) (recordsOf (curvesOf walk limit t (planOf t))) slots
+    slotsWith (lutOf walk limit points profile entry size (length slots) .state) (recordsOf (curvesOf walk limit t (planOf t))) slots
 
 -- what a call answers, and what it leaves of the lent slots
-pub record Said (walk : Walk) (limit : ℕ) (t : List ℕ) (answer : Answer) (r : Lut) (before after : List ℕ) : Type 0 where
-  pub answer-is : paper r ≡ answer
-  pub left-is : after ≡ leftBy (answer .state) (recordsOf (curvesOf walk limit t (planOf t))) before
+pub record AnswerAndSlots (walk : Walk) (limit : ℕ) (t : List ℕ) (answer : Answer) (r : Lut) (before after : List ℕ) : Type 0 where
+  pub answer-is : inNumbers r ≡ answer
+  pub slots-are : after ≡ slotsWith (answer .state) (recordsOf (curvesOf walk limit t (planOf t))) before

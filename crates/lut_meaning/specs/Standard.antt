@@ -72,8 +72,8 @@ module _ {t : List ℕ} where
       ClutFits (the-clut n c s z) = ClutTaken c
 
   -- the answer to a tag: it is told by the head, the matrix and the CLUT, on either walk
-  abbrev pub told : LutParts t → Answer
-  told l =
+  abbrev pub answerTold : LutParts t → Answer
+  answerTold l =
       let h : Head = l .head in
       record {
         state =
@@ -126,14 +126,14 @@ module _ {t : List ℕ} where
 pub record PartsAs (t : List ℕ) (answer : Answer) : Type 0 where
   pub parts : LutParts t
   pub taken : PartsTaken parts
-  pub answer-is : answer ≡ told parts
+  pub answer-is : answer ≡ answerTold parts
 
 -- with its curves, whose records stand in front of the slots as they are left
 pub record TagAs (walk : Walk) (limit : ℕ) (t : List ℕ) (answer : Answer) (slots left : List ℕ) : Type 0 where
   pub frame : PartsAs t answer
   pub curves : LutCurves t (frame .parts .head)
   pub taken : CurvesTaken walk limit curves
-  pub left-is : left ≡ recordsWritten curves ++ drop (length (recordsWritten curves)) slots
+  pub slots-are : left ≡ recordsWritten curves ++ drop (length (recordsWritten curves)) slots
 
 -- by the records in the slots, the walk steps over each curve but the last of its set
 unfoldable pub PassesBy : Walk → (slots : List ℕ) (a m b : ℕ) → Type 0

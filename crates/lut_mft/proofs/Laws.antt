@@ -15,7 +15,7 @@ use borrow.Author.Tests.{eq-eqb, ne-eqb, lt-ltb, le-ltb, ltb-false}
 use Rattle.lut_clut_meaning.specs.Table.{pointsOf}
 use Rattle.lut_clut_meaning.proofs.Grid.{power-is}
 use Rattle.fields.specs.Bytes.{u16At, u32At, wordsAt}
-use Rattle.fields.specs.Refusals.{numberOf}
+use Rattle.fields.specs.Refusals.{refusalNumber}
 use Rattle.fields.specs.Tag.{signatureOf}
 use Rattle.fields.specs.declared.Kind.the-variants.{Mft1}
 use Rattle.fields.specs.declared.Refusal.{Refusal}
@@ -243,6 +243,6 @@ module _ (t : List ℕ) (s : State) (r : MftAnswer) (h : stateFrom r ≡ s) wher
   unfolding answerOf
   with-matrix table e m w = rw (← h, e, w)
 
-  pub without-matrix : (why : Refusal) → r ≡ MftAnswer.Refused why → record { state = refused (numberOf why); matrix = replicate 9 0 } ≡ answerOf t s
+  pub without-matrix : (why : Refusal) → r ≡ MftAnswer.Refused why → record { state = refused (refusalNumber why); matrix = replicate 9 0 } ≡ answerOf t s
   unfolding answerOf
   without-matrix why e = rw (← h, e)

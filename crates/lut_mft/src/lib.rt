@@ -8,7 +8,7 @@ pub use lut_mft_meaning::MftTable;
 ghost use mathlib.Core.Path.{_≡_};
 ghost use Prim.Native.Nat.{_*_, _^_, _≤_};
 ghost use Rattle.lut_clut_meaning.specs.Table.{pointsOf};
-ghost use Rattle.lut_mft_meaning.specs.Answer.{paper, stateFrom, answerOf};
+ghost use Rattle.lut_mft_meaning.specs.Answer.{inNumbers, stateFrom, answerOf};
 ghost use Rattle.lut_mft_meaning.specs.Layout.{isWide, isMft, entriesAt, entrySize, tablesStart, colourTable};
 ghost use Rattle.lut_mft_meaning.specs.Mft.{outside, badEntries, badChannels, badNumbers, tablesOf, numbersOf, mftOf};
 ghost use Rattle.lut_mft.specs.Sized.{Sized};
@@ -191,7 +191,7 @@ fn read_type(tag: &[u8], limit: u64) -> MftAnswer
 
 // The `mft1` or `mft2` tag whose bytes these are; its colour table may have `limit` grid points.
 pub fn read_lut_a_to_b_type(tag: &[u8], limit: u64) -> Mft
-    ensures { λ r. ⌜ paper r ≡ answerOf (now (tag .entry)) (mftOf limit (now (tag .entry))) ⌝ }
+    ensures { λ r. ⌜ inNumbers r ≡ answerOf (now (tag .entry)) (mftOf limit (now (tag .entry))) ⌝ }
 {
     let answer = read_type(tag, limit);
     match answer {

@@ -21,7 +21,7 @@ use Rattle.lut_clut_meaning.proofs.Grid.{power-is}
 use Rattle.lut_mft_meaning.specs.Answer.{Fields, value, fieldsOf, answerOf}
 use Rattle.lut_mft_meaning.specs.Layout.{isWide, entrySize, tablesStart, entriesAt, inputs, outputs, gridPoints, inputEntries, outputEntries, matrixOf, colourTable}
 use Rattle.lut_mft_meaning.specs.Mft.{mftOf}
-use Rattle.lut_mft_meaning.specs.Standard.{told, told16, told8, Taken, Begins16, Begins8}
+use Rattle.lut_mft_meaning.specs.Standard.{fieldsTold, fieldsTold16, fieldsTold8, Taken, Begins16, Begins8}
 use Rattle.lut_mft_meaning.proofs.Laid.{LaidOut, Asked, conforms, accepted}
 
 -- the numbers of a tag, as the reader has them
@@ -50,12 +50,12 @@ module _ (limit : ℕ) (t : List ℕ) (size start n m : ℕ) (l : Lut) (s : Seen
   output-bytes : outputEntries t * outputs t * entrySize t ≡ size * length (l .outputTables)
   output-bytes = rw (s .m-is, s .o-is, s .size-is, z .output-tables) (omega arith)
 
-  told-fields : fieldsOf t ≡ told size start n m l
+  told-fields : fieldsOf t ≡ fieldsTold size start n m l
   unfolding fieldsOf colourTable
   told-fields =
       rw (input-bytes, clut-bytes, output-bytes, s .size-is, s .start-is, s .n-is, s .m-is, s .i-is, s .o-is, s .g-is)
 
-  answered : Entries16 n → Entries16 m → Taken limit l → answerOf t (mftOf limit t) ≡ record { state = value (told size start n m l); matrix = nine (l .matrix) }
+  answered : Entries16 n → Entries16 m → Taken limit l → answerOf t (mftOf limit t) ≡ record { state = value (fieldsTold size start n m l); matrix = nine (l .matrix) }
   unfolding answerOf colourTable
   answered en em k =
       let h : LaidOut t = record {
@@ -83,7 +83,7 @@ four : (a b c rest : List ℕ) → length (a ++ b ++ c ++ rest) ≡ length a + l
 four a b c rest = simp length-append
 
 module _ (limit reserved reserved2 : ℕ) (l : Lut) (rest : List ℕ) (k : Taken limit l) where
-  pub written-read16 : (n m : ℕ) → Entries16 n → Entries16 m → Sized n m l → let t : List ℕ = lut16Type reserved reserved2 n m l ++ rest in answerOf t (mftOf limit t) ≡ record { state = value (told16 n m l); matrix = nine (l .matrix) }
+  pub written-read16 : (n m : ℕ) → Entries16 n → Entries16 m → Sized n m l → let t : List ℕ = lut16Type reserved reserved2 n m l ++ rest in answerOf t (mftOf limit t) ≡ record { state = value (fieldsTold16 n m l); matrix = nine (l .matrix) }
   unfolding lut16Type isWide entrySize tablesStart entriesAt signatureOf each32
   written-read16 n m en em z =
       let t : List ℕ = lut16Type reserved reserved2 n m l ++ rest in
@@ -101,7 +101,7 @@ module _ (limit reserved reserved2 : ℕ) (l : Lut) (rest : List ℕ) (k : Taken
       } in
       answered limit t 2 52 n m l s z en em k
 
-  pub written-read8 : Sized 256 256 l → let t : List ℕ = lut8Type reserved reserved2 l ++ rest in answerOf t (mftOf limit t) ≡ record { state = value (told8 l); matrix = nine (l .matrix) }
+  pub written-read8 : Sized 256 256 l → let t : List ℕ = lut8Type reserved reserved2 l ++ rest in answerOf t (mftOf limit t) ≡ record { state = value (fieldsTold8 l); matrix = nine (l .matrix) }
   unfolding lut8Type isWide entrySize tablesStart entriesAt signatureOf each32
   written-read8 z =
       let t : List ℕ = lut8Type reserved reserved2 l ++ rest in

@@ -12,7 +12,7 @@ use lib.ListN.{length}
 use Rattle.fields.specs.Bytes.{u32At}
 use Rattle.fields.specs.Tag.{signatureOf}
 use Rattle.fields.specs.declared.Kind.the-variants.{Mft1, Mft2}
-use Rattle.lut_clut_meaning.specs.Table.{pointsOf, lengthOf, inGrid, numberOf}
+use Rattle.lut_clut_meaning.specs.Table.{pointsOf, lengthOf, inGrid, entryNumber}
 use Rattle.lut_clut_meaning.proofs.Grid.{entry-below, power-is}
 use Rattle.lut_mft_meaning.specs.Answer.{Fields, value, fieldsOf, toldTable}
 use Rattle.lut_mft_meaning.specs.Layout.{isWide, inputs, outputs, gridPoints, entrySize, colourTable}
@@ -35,7 +35,7 @@ pub record Inside (t : List ℕ) (f : Fields) : Type 0 where
   pub clut-in-tag : f .clutStart + f .clutBytes ≤ length t
   pub output-in-tag : f .outputStart + f .outputBytes ≤ length t
   pub bytes-are : lengthOf (toldTable f) ≡ f .clutBytes
-  pub entry-in-table : (index : List ℕ) (channel : ℕ) → inGrid (toldTable f .grid) index ≡ true → channel < f .outputs → numberOf (toldTable f) index channel * f .size + f .size ≤ f .clutBytes
+  pub entry-in-table : (index : List ℕ) (channel : ℕ) → inGrid (toldTable f .grid) index ≡ true → channel < f .outputs → entryNumber (toldTable f) index channel * f .size + f .size ≤ f .clutBytes
 
 pub inside : (limit : ℕ) (t : List ℕ) (f : Fields) → mftOf limit t ≡ value f → Inside t f
 unfolding fieldsOf colourTable

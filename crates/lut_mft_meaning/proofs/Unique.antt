@@ -3,7 +3,7 @@
 use mathlib.Core.Path.{_≡_, refl, ap}
 use Rattle.fields.proofs.Numbers.{nameOf, named}
 use Rattle.fields.proofs.Once.{once}
-use Rattle.lut_mft_meaning.specs.Answer.{Fields, State, value, refused, Answer, stateFrom, paper}
+use Rattle.lut_mft_meaning.specs.Answer.{Fields, State, value, refused, Answer, stateFrom, inNumbers}
 use Rattle.lut_mft_meaning.specs.declared.Mft.{Mft}
 use Rattle.lut_mft_meaning.specs.declared.MftAnswer.{MftAnswer}
 use Rattle.lut_mft_meaning.specs.declared.MftTable.{MftTable}
@@ -37,9 +37,9 @@ answer-back : (r : MftAnswer) → answerFrom (stateFrom r) ≡ r
 answer-back (MftAnswer.Value table) = refl
 answer-back (MftAnswer.Refused why) = ap MftAnswer.Refused (named why)
 
-back : (r : Mft) → resultFrom (paper r) ≡ r
+back : (r : Mft) → resultFrom (inNumbers r) ≡ r
 back r = ap (λ (a : MftAnswer). record { answer = a; matrix = r .matrix }) (answer-back (r .answer))
 
 -- two results that stand for the same answer are one
-pub unique : (a : Answer) (r s : Mft) → paper r ≡ a → paper s ≡ a → r ≡ s
-unique = once paper resultFrom back
+pub unique : (a : Answer) (r s : Mft) → inNumbers r ≡ a → inNumbers s ≡ a → r ≡ s
+unique = once inNumbers resultFrom back

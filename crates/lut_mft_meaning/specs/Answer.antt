@@ -3,7 +3,7 @@ use Prim.Native.Nat.{ℕ}
 use mathlib.Core.List.{List}
 use lib.ListN.{replicate}
 use Rattle.lut_clut_meaning.specs.Table.{Table, lengthOf}
-use Rattle.fields.specs.Refusals.{numberOf}
+use Rattle.fields.specs.Refusals.{refusalNumber}
 use Rattle.lut_mft_meaning.specs.Layout.{entrySize, inputs, outputs, gridPoints, matrixOf, inputEntries, outputEntries, tablesStart, inputLength, colourTable, outputStart, outputLength}
 use Rattle.lut_mft_meaning.specs.declared.Mft.{Mft}
 use Rattle.lut_mft_meaning.specs.declared.MftAnswer.{MftAnswer}
@@ -53,10 +53,10 @@ fieldsFrom t =
 
 abbrev pub stateFrom : MftAnswer → State
 stateFrom (MftAnswer.Value t) = value (fieldsFrom t)
-stateFrom (MftAnswer.Refused why) = refused (numberOf why)
+stateFrom (MftAnswer.Refused why) = refused (refusalNumber why)
 
-abbrev pub paper : Mft → Answer
-paper m = record { state = stateFrom (m .answer); matrix = m .matrix }
+abbrev pub inNumbers : Mft → Answer
+inNumbers m = record { state = stateFrom (m .answer); matrix = m .matrix }
 
 -- what is answered of a tag that is good
 unfoldable pub fieldsOf : List ℕ → Fields

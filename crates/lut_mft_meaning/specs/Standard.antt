@@ -10,8 +10,8 @@ use Rattle.icc.specs.Tables.{Lut, nine, Sized, Entries16, lut16Type, lut8Type}
 use Rattle.lut_mft_meaning.specs.Answer.{Fields}
 
 -- entries of so many bytes; the first table starts there, and each other behind the one before
-abbrev pub told : (size start inputEntries outputEntries : ℕ) → Lut → Fields
-told size start inputEntries outputEntries l =
+abbrev pub fieldsTold : (size start inputEntries outputEntries : ℕ) → Lut → Fields
+fieldsTold size start inputEntries outputEntries l =
     let a = size * length (l .inputTables) in
     let b = size * length (l .clut) in
     let c = size * length (l .outputTables) in
@@ -30,11 +30,11 @@ told size start inputEntries outputEntries l =
       outputBytes = c;
     }
 
-abbrev pub told16 : (inputEntries outputEntries : ℕ) → Lut → Fields
-told16 inputEntries outputEntries l = told 2 52 inputEntries outputEntries l
+abbrev pub fieldsTold16 : (inputEntries outputEntries : ℕ) → Lut → Fields
+fieldsTold16 inputEntries outputEntries l = fieldsTold 2 52 inputEntries outputEntries l
 
-abbrev pub told8 : Lut → Fields
-told8 l = told 1 48 256 256 l
+abbrev pub fieldsTold8 : Lut → Fields
+fieldsTold8 l = fieldsTold 1 48 256 256 l
 
 -- what this library asks: one to four channels on each side, three on one of them, two points or more in each dimension, no more in all
 -- than the limit, and numbers of 32 bits
@@ -61,7 +61,7 @@ pub record Begins16 (limit : ℕ) (t : List ℕ) (f : Fields) (m : List ℕ) : T
   pub sized : Sized inputEntries outputEntries lut
   pub taken : Taken limit lut
   pub entries-fit : Each16 (lut .clut)
-  pub told-is : f ≡ told16 inputEntries outputEntries lut
+  pub told-is : f ≡ fieldsTold16 inputEntries outputEntries lut
   pub matrix-is : m ≡ nine (lut .matrix)
   pub is : t ≡ lut16Type reserved reserved2 inputEntries outputEntries lut ++ rest
 
@@ -72,6 +72,6 @@ pub record Begins8 (limit : ℕ) (t : List ℕ) (f : Fields) (m : List ℕ) : Ty
   pub rest : List ℕ
   pub sized : Sized 256 256 lut
   pub taken : Taken limit lut
-  pub told-is : f ≡ told8 lut
+  pub told-is : f ≡ fieldsTold8 lut
   pub matrix-is : m ≡ nine (lut .matrix)
   pub is : t ≡ lut8Type reserved reserved2 lut ++ rest

@@ -3,12 +3,12 @@
 use mathlib.Core.Path.{refl}
 use Rattle.fields.specs.Bytes.{wordsAt}
 use Rattle.fields.specs.Tag.{signatureOf}
-use Rattle.curve_meaning.specs.Curve.{curveOf, tableOf, paraOf, divides}
+use Rattle.curve_meaning.specs.Curve.{curveOf, curvOf, paraOf, divides}
 use Rattle.curve_meaning.specs.Layout.{parameterCount}
 use Rattle.curve_meaning.specs.Shape.{sizeOf, stepOf, wordsOf}
 use Rattle.lut_run_meaning.specs.Cases.{Holds, cases}
-use Rattle.lut_run_meaning.specs.Run.{raised, entryAt, runAt, recordsOf, Each}
+use Rattle.lut_run_meaning.specs.Run.{aligned, curveAtOffset, runAt, recordsOf, Each}
 
 pub claim : Each Holds cases
-unfolding Each Holds runAt entryAt raised recordsOf curveOf tableOf paraOf divides parameterCount sizeOf stepOf wordsOf wordsAt signatureOf
+unfolding Each Holds runAt curveAtOffset aligned recordsOf curveOf curvOf paraOf divides parameterCount sizeOf stepOf wordsOf wordsAt signatureOf
 claim = (refl, (refl, (refl, (refl, (refl, (refl, (refl, (refl, (refl, (refl, (refl, ((refl, refl), tt))))))))))))

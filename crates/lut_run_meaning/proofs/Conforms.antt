@@ -9,40 +9,41 @@ use mathlib.Core.List.{List, [], _∷_, _++_, map, append-assoc}
 use lib.ListN.{length, getD, drop, length-map, length-append, length-drop}
 use lib.Seq.{getD-at}
 use borrow.Author.Tests.{le-ltb}
+use Rattle.fields.specs.Checked.{good}
 use Rattle.icc.specs.Curves.{Curve, curveElement}
 use Rattle.icc.specs.Elements.{Stands, PlacedCurve, CurvesFrom}
 use Rattle.icc.specs.Numbers.{Bytes, NextMultipleOf4}
 use Rattle.fields.proofs.Written.{rest-bytes}
-use Rattle.curve_meaning.specs.Shape.{Shape, is, empty, table, para, sizeOf, stepOf, recordWords, wordsOf}
+use Rattle.curve_meaning.specs.Shape.{Shape, empty, table, para, sizeOf, stepOf, recordWords, wordsOf}
 use Rattle.curve_meaning.specs.Standard.{shapeOf, Fits}
 use Rattle.curve_meaning.specs.declared.Walk.{Walk}
 use Rattle.curve_meaning.specs.declared.Walk.the-variants.{Crate, Book}
 use Rattle.curve_meaning.proofs.Inside.{book-step, size-least}
 use Rattle.curve_meaning.proofs.Conforms.{written-read, written-size, told-words, read-written}
-use Rattle.lut_run_meaning.specs.Run.{Placed, placed, whole, raised, entryAt, runAt, recordsOf, Each}
+use Rattle.lut_run_meaning.specs.Run.{Placed, placed, whole, aligned, curveAtOffset, runAt, recordsOf, Each}
 use Rattle.lut_run_meaning.specs.Standard.{seenOf, AllFit, Passes, Standing, recordsTold, NoneEmpty}
 use Rattle.lut_run_meaning.proofs.Runs.{entry-there, Reads, run-reads, reads-run}
 use Rattle.lut_run_meaning.proofs.Writing.{words-length}
 
 -- ---- the next multiple of 4
 
-pub raised-next : (n : ℕ) → NextMultipleOf4 n (raised n)
-unfolding raised
-raised-next n = record { quarter = (n + 3) / 4; multiple = omega arith; not-below = omega arith; least = λ k h. omega arith }
+pub aligned-next : (n : ℕ) → NextMultipleOf4 n (aligned n)
+unfolding aligned
+aligned-next n = record { quarter = (n + 3) / 4; multiple = omega arith; not-below = omega arith; least = λ k h. omega arith }
 
-pub next-raised : (n next : ℕ) → NextMultipleOf4 n next → next ≡ raised n
+pub next-raised : (n next : ℕ) → NextMultipleOf4 n next → next ≡ aligned n
 next-raised n next h =
-    let r = raised-next n in
+    let r = aligned-next n in
     let e = r .multiple in
-    let low : next ≤ raised n = rw e (h .least (r .quarter) (rw e at (r .not-below))) in
+    let low : next ≤ aligned n = rw e (h .least (r .quarter) (rw e at (r .not-below))) in
     let f = h .multiple in
-    let high : raised n ≤ next = rw f (r .least (h .quarter) (rw f at (h .not-below))) in
+    let high : aligned n ≤ next = rw f (r .least (h .quarter) (rw f at (h .not-below))) in
     omega arith
 
 -- ---- one curve
 
-entry-written : (limit : ℕ) (t : List ℕ) (at : ℕ) (c : Curve) → Stands t at (curveElement c) → Fits limit c → entryAt limit t at ≡ is (shapeOf c)
-unfolding entryAt
+entry-written : (limit : ℕ) (t : List ℕ) (at : ℕ) (c : Curve) → Stands t at (curveElement c) → Fits limit c → curveAtOffset limit t at ≡ good (shapeOf c)
+unfolding curveAtOffset
 entry-written limit t at c s f =
     let l : at + 12 ≤ length t = omega (arith, ap length (s .is), length-append (curveElement c) (s .behind), written-size c, size-least (shapeOf c), length-drop at t) in
     rw (le-ltb (length t) (at + 12) l, s .is) (written-read limit c (s .behind) f)
@@ -78,7 +79,7 @@ module _ (walk : Walk) (limit : ℕ) (t : List ℕ) where
   reads at (c ∷ []) (e, s, rest) (f, fs) p = (e, entry-written limit t at (c .curve) s f, tt)
   reads at (c ∷ d ∷ cs) (e, s, (next, n, rest)) (f, fs) p =
       let k : stepOf walk (shapeOf (c .curve)) ≡ length (curveElement (c .curve)) = over walk (seenOf c) (seenOf d) (map seenOf cs) p ∙ written-size (c .curve) in
-      let q : next ≡ raised (at + stepOf walk (shapeOf (c .curve))) = next-raised _ next n ∙ ap (λ (i : ℕ). raised (at + i)) (sym k) in
+      let q : next ≡ aligned (at + stepOf walk (shapeOf (c .curve))) = next-raised _ next n ∙ ap (λ (i : ℕ). aligned (at + i)) (sym k) in
       (e, entry-written limit t at (c .curve) s f, rw q at (reads next (d ∷ cs) rest fs (rest-passes walk (seenOf c) (seenOf d) (map seenOf cs) p)))
 
   pub written-run : (at : ℕ) (cs : List PlacedCurve) → CurvesFrom t at cs → AllFit limit cs → Passes walk (map seenOf cs) → runAt walk limit t at (length cs) ≡ record { curves = map seenOf cs; end = whole }
@@ -88,7 +89,7 @@ module _ (walk : Walk) (limit : ℕ) (t : List ℕ) where
 
   module _ (b : Bytes t) where
     -- a curve that is seen, and those that stand behind it
-    front : (at : ℕ) (p : Placed) (ps : List Placed) → p .at ≡ at → entryAt limit t at ≡ is (p .shape) → Standing limit t (raised (at + sizeOf (p .shape))) ps → Standing limit t at (p ∷ ps)
+    front : (at : ℕ) (p : Placed) (ps : List Placed) → p .at ≡ at → curveAtOffset limit t at ≡ good (p .shape) → Standing limit t (aligned (at + sizeOf (p .shape))) ps → Standing limit t at (p ∷ ps)
     unfolding CurvesFrom Each
     front at p ps e s r =
         let c = read-written limit (drop at t) (rest-bytes t b at) (p .shape) (entry-there limit t at (p .shape) s .1) in
@@ -97,7 +98,7 @@ module _ (walk : Walk) (limit : ℕ) (t : List ℕ) where
         let pe : p ≡ seenOf record { offset = at; curve = c .curve } = ap (λ (x : ℕ). placed x (p .shape)) e ∙ ap (placed at) (c .shape-is) in
         record {
           curves = record { offset = at; curve = c .curve } ∷ r .curves;
-          stand = (refl, record { behind = c .rest; is = c .is }, (raised far, rw (← q) (raised-next far), r .stand));
+          stand = (refl, record { behind = c .rest; is = c .is }, (aligned far, rw (← q) (aligned-next far), r .stand));
           fit = (c .fits, r .fit);
           seen = ap (λ (x : Placed). x ∷ ps) pe ∙ ap (λ (xs : List Placed). seenOf record { offset = at; curve = c .curve } ∷ xs) (r .seen);
         }
@@ -111,7 +112,7 @@ module _ (walk : Walk) (limit : ℕ) (t : List ℕ) where
     back at [] h p = none at
     back at (c ∷ []) (e, s, rest) p = front at c [] e s (none _)
     back at (c ∷ d ∷ cs) (e, s, rest) p =
-        let r = back (raised (at + stepOf walk (c .shape))) (d ∷ cs) rest (rest-passes walk c d cs p) in
+        let r = back (aligned (at + stepOf walk (c .shape))) (d ∷ cs) rest (rest-passes walk c d cs p) in
         front at c (d ∷ cs) e s (rw (over walk c d cs p) at r)
 
   pub run-written : Bytes t → (at n : ℕ) → Passes walk (runAt walk limit t at n .curves) → Standing limit t at (runAt walk limit t at n .curves)

@@ -7,10 +7,12 @@ use mathlib.Core.Path.{_≡_, refl, sym, _∙_, ap}
 use mathlib.Core.List.{List, [], _∷_, _++_, append-assoc}
 use lib.ListN.{length, drop, length-append}
 use lib.Seq.{sets, sets-eq, length-sets}
+use Rattle.fields.proofs.Never.{never}
+use Rattle.fields.specs.Checked.{Checked, good, bad}
 use Rattle.fields.proofs.Stores.{sets-append}
-use Rattle.curve_meaning.specs.Shape.{Shape, Seen, is, no, empty, table, para, stepOf, recordWords, wordsOf}
+use Rattle.curve_meaning.specs.Shape.{Shape, empty, table, para, stepOf, recordWords, wordsOf}
 use Rattle.curve_meaning.specs.declared.Walk.{Walk}
-use Rattle.lut_run_meaning.specs.Run.{Placed, whole, Ran, placed, first, raised, entryAt, runAt, recordsOf}
+use Rattle.lut_run_meaning.specs.Run.{Placed, whole, Run, placed, first, aligned, curveAtOffset, runAt, recordsOf}
 use Rattle.lut_run_meaning.proofs.Runs.{run-turn, run-count}
 
 -- ---- records
@@ -49,37 +51,37 @@ module _ (walk : Walk) (limit : ℕ) (t : List ℕ) (o n : ℕ) (s₀ : List ℕ
     less = omega arith
 
     -- no refusal is met
-    never : (m : ℕ) → entryAt limit t at ≡ no m → ⊥
+    never : (m : ℕ) → curveAtOffset limit t at ≡ bad m → ⊥
     unfolding runAt
     never m e =
         let g : runAt walk limit t at (suc (n - (i + 1))) .end ≡ whole = rw less at (w .good) in
         let f = rw e at g in
-        let z : _≡_ {A = ℕ} 0 1 = cc in omega arith
+        never cc
 
     pub record Next : Type 0 where
       pub shape : Shape
-      pub seen : entryAt limit t at ≡ is shape
+      pub seen : curveAtOffset limit t at ≡ good shape
 
     -- a curve is next
     pub next-is : Next
-    next-is = by (entryAt limit t at) refl
+    next-is = by (curveAtOffset limit t at) refl
       where
-        by : (x : Seen) → entryAt limit t at ≡ x → Next
-        by (is s) e = record { shape = s; seen = e }
-        by (no m) e = absurd (never m e)
+        by : (x : Checked Shape) → curveAtOffset limit t at ≡ x → Next
+        by (good s) e = record { shape = s; seen = e }
+        by (bad m) e = absurd (never m e)
 
-    pub turns : (s′ : List ℕ) (shape : Shape) → entryAt limit t at ≡ is shape → s′ ≡ sets s (i * recordWords) (wordsOf (at + 12) shape) → Writing s′ (raised (at + stepOf walk shape)) (i + 1)
+    pub turns : (s′ : List ℕ) (shape : Shape) → curveAtOffset limit t at ≡ good shape → s′ ≡ sets s (i * recordWords) (wordsOf (at + 12) shape) → Writing s′ (aligned (at + stepOf walk shape)) (i + 1)
     unfolding recordsOf
     turns s′ shape seen p =
         let ws : List ℕ = wordsOf (at + 12) shape in
-        let e : runAt walk limit t at (n - i) ≡ first (placed at shape) (runAt walk limit t (raised (at + stepOf walk shape)) (n - (i + 1))) = ap (runAt walk limit t at) less ∙ run-turn walk limit t at (n - (i + 1)) shape seen in
+        let e : runAt walk limit t at (n - i) ≡ first (placed at shape) (runAt walk limit t (aligned (at + stepOf walk shape)) (n - (i + 1))) = ap (runAt walk limit t at) less ∙ run-turn walk limit t at (n - (i + 1)) shape seen in
         let k : (i + 1) * recordWords ≡ i * recordWords + length ws = omega (arith, words-length (at + 12) shape) in
-        let rest : List ℕ = recordsOf (runAt walk limit t (raised (at + stepOf walk shape)) (n - (i + 1)) .curves) in
-        let f : recordsOf (runAt walk limit t at (n - i) .curves) ≡ ws ++ rest = ap (λ (r : Ran). recordsOf (r .curves)) e in
+        let rest : List ℕ = recordsOf (runAt walk limit t (aligned (at + stepOf walk shape)) (n - (i + 1)) .curves) in
+        let f : recordsOf (runAt walk limit t at (n - i) .curves) ≡ ws ++ rest = ap (λ (r : Run). recordsOf (r .curves)) e in
         record {
           within = omega arith;
           long = ap length p ∙ length-sets s (i * recordWords) ws ∙ w .long;
-          good = sym (ap (λ (r : Ran). r .end) e) ∙ w .good;
+          good = sym (ap (λ (r : Run). r .end) e) ∙ w .good;
           left = ap (λ (y : List ℕ). sets y ((i + 1) * recordWords) rest) p ∙ rw (k, ← sets-append ws rest s (i * recordWords), ← f) (w .left);
         }
 

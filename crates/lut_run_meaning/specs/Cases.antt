@@ -6,11 +6,11 @@ use Rattle.curve_meaning.specs.Cases.{curv, para, none}
 use Rattle.curve_meaning.specs.Shape.{empty, table, para as function}
 use Rattle.curve_meaning.specs.declared.Walk.{Walk}
 use Rattle.curve_meaning.specs.declared.Walk.the-variants.{Crate, Book}
-use Rattle.lut_run_meaning.specs.Run.{Placed, End, whole, stopped, placed, runAt, recordsOf, endOf, dataEnd}
+use Rattle.lut_run_meaning.specs.Run.{Placed, RunEnd, whole, stopped, placed, runAt, recordsOf, endOf, dataEnd}
 
 pub data Case : Type 0 where
   -- walk, limit, tag, offset and number of curves, and the curves that are met and the end
-  meets : Walk → ℕ → List ℕ → ℕ → ℕ → List Placed → End → Case
+  meets : Walk → ℕ → List ℕ → ℕ → ℕ → List Placed → RunEnd → Case
   -- curves, and their records one behind the other
   records : List Placed → List ℕ → Case
   -- curves, and the first byte behind each, by its place and by its record

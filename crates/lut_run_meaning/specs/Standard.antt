@@ -5,7 +5,7 @@ use mathlib.Core.List.{List, [], _∷_, _++_, map}
 use lib.ListN.{getD}
 use Rattle.icc.specs.Elements.{PlacedCurve, CurvesFrom}
 use Rattle.curve_meaning.specs.Shape.{empty, recordWords}
-use Rattle.curve_meaning.specs.Standard.{shapeOf, Fits, toldOf}
+use Rattle.curve_meaning.specs.Standard.{shapeOf, Fits, recordTold}
 use Rattle.curve_meaning.specs.declared.Walk.{Walk}
 use Rattle.curve_meaning.specs.declared.Walk.the-variants.{Crate, Book}
 use Rattle.lut_run_meaning.specs.Run.{Placed, placed, Each}
@@ -34,7 +34,7 @@ pub record Standing (limit : ℕ) (t : List ℕ) (offset : ℕ) (ps : List Place
 -- the records of curves, one behind the other: the data of each start 12 bytes behind its offset
 unfoldable pub recordsTold : List PlacedCurve → List ℕ
 recordsTold [] = []
-recordsTold (c ∷ cs) = toldOf (c .offset + 12) (c .curve) ++ recordsTold cs
+recordsTold (c ∷ cs) = recordTold (c .offset + 12) (c .curve) ++ recordsTold cs
 
 -- by their records in the slots, none but the last of n curves from the i-th on is empty: kind 0
 abbrev pub NoneEmpty : (slots : List ℕ) (i n : ℕ) → Type 0

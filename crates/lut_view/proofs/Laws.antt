@@ -14,14 +14,14 @@ use mir.Syntax.{w64}
 use mir.Val.{Fits}
 use borrow.Author.Tests.{eq-eqb, ne-eqb, lt-ltb, le-ltb, ltb-true, ltb-false}
 use Rattle.fields.specs.Bytes.{u16At}
-use Rattle.lut_clut_meaning.specs.Table.{Table, product, inGrid, pointOf, numberOf}
+use Rattle.lut_clut_meaning.specs.Table.{Table, product, inGrid, pointOf, entryNumber}
 use Rattle.lut_clut_meaning.proofs.Grid.{point-below}
 use Rattle.fields.specs.declared.InTag.{InTag}
 use Rattle.lut_meaning.specs.Answer.{stateFrom}
 use Rattle.lut_meaning.specs.declared.AbmTable.{AbmTable}
 use Rattle.lut_meaning.specs.declared.LutAnswer.{LutAnswer}
 use Rattle.lut_mft_meaning.specs.declared.MftTable.{MftTable}
-use Rattle.lut_view_meaning.specs.Answer.{Told, value, absent}
+use Rattle.lut_view_meaning.specs.Answer.{Answer, value, absent}
 use Rattle.lut_view_meaning.specs.View.{gridFrom, tableBy, numbersOf, entryFrom, entryOf}
 use Rattle.lut_view_meaning.specs.declared.TableNumbers.{TableNumbers}
 use Rattle.lut_view.specs.Point.{pointAt, Appended}
@@ -192,7 +192,7 @@ pub ruleset entry-laws = (before-fits, behind-fits, from-none, from-three, from-
 -- ---- the entry of an index
 
 -- of the point that the index names
-unfoldable ofPoint : List ℕ → Table → Point → ℕ → Told
+unfoldable ofPoint : List ℕ → Table → Point → ℕ → Answer
 ofPoint t table (Point.At p) channel = cond (ltb channel (table .outputs)) (entryFrom t (table .start) (table .size) (p * table .outputs + channel)) absent
 ofPoint t table Point.Nowhere channel = absent
 
@@ -200,7 +200,7 @@ of-point : (t : List ℕ) (table : Table) (m : List ℕ) (channel : ℕ) → ofP
 unfolding ofPoint entryOf pointAt
 of-point t table m channel = by-test (inGrid (table .grid) m && ltb (pointOf (table .grid) m) (2 ^ 32))
   where
-    by-test : (b : Bool) → ofPoint t table (cond b (Point.At (pointOf (table .grid) m)) Point.Nowhere) channel ≡ cond (b && ltb channel (table .outputs)) (entryFrom t (table .start) (table .size) (numberOf table m channel)) absent
+    by-test : (b : Bool) → ofPoint t table (cond b (Point.At (pointOf (table .grid) m)) Point.Nowhere) channel ≡ cond (b && ltb channel (table .outputs)) (entryFrom t (table .start) (table .size) (entryNumber table m channel)) absent
     by-test true = refl
     by-test false = refl
 
@@ -217,7 +217,7 @@ module _ (t : List ℕ) (v : TableNumbers) (m : List ℕ) (channel n : ℕ) (e :
     unfolding ofPoint
     entry-channel o = rw (g, le-ltb _ _ o) at found
 
-    pub entry-read : channel < v .outputs → (k : ℕ) → Appended p (v .outputs) channel k → (a : Told) → a ≡ entryFrom t (v .start .0) (v .«entry_size») k → a ≡ entryOf t (tableBy t v) m channel
+    pub entry-read : channel < v .outputs → (k : ℕ) → Appended p (v .outputs) channel k → (a : Answer) → a ≡ entryFrom t (v .start .0) (v .«entry_size») k → a ≡ entryOf t (tableBy t v) m channel
     unfolding ofPoint
     entry-read o k c a z = (rw (c .is) at z) ∙ (rw (g, lt-ltb _ _ o) at found)
 

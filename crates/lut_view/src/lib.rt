@@ -8,7 +8,7 @@ pub use lut_view_meaning::TableView;
 ghost use mathlib.Core.Path.{_≡_};
 ghost use Prim.Native.Nat.{_-_, _^_, _<_};
 ghost use Rattle.lut_meaning.specs.Answer.{stateFrom};
-ghost use Rattle.lut_view_meaning.specs.Answer.{paper};
+ghost use Rattle.lut_view_meaning.specs.Answer.{inNumbers};
 ghost use Rattle.lut_view_meaning.specs.View.{noNumbers, numbersOf, gridFrom, tableBy, entryFrom, entryOf};
 ghost use Rattle.lut_view.specs.Point.{pointAt, Appended};
 
@@ -112,7 +112,7 @@ fn point_at(tag: &[u8], at: InTag, step: u8, n: usize, index: &[u8]) -> Point
 // Entry `number` of those from `start` on, if it has one byte or two and lies in the tag.
 fn read_entry(tag: &[u8], start: InTag, size: u8, number: u64) -> EntryAnswer
     requires { ⌜ number < 2 ^ 41 ⌝ }
-    ensures { λ r. ⌜ paper r ≡ entryFrom (now (tag .entry)) (start .0) size number ⌝ }
+    ensures { λ r. ⌜ inNumbers r ≡ entryFrom (now (tag .entry)) (start .0) size number ⌝ }
 {
     if size < 1 {
         return EntryAnswer::Absent;
@@ -137,7 +137,7 @@ fn read_entry(tag: &[u8], start: InTag, size: u8, number: u64) -> EntryAnswer
 
 // The entry of a grid index and an output channel, of the table that the numbers tell of.
 pub fn entry_at(tag: &[u8], numbers: TableNumbers, index: &[u8], channel: u8) -> EntryAnswer
-    ensures { λ r. ⌜ paper r ≡ entryOf (now (tag .entry)) (tableBy (now (tag .entry)) numbers) (now (index .entry)) channel ⌝ }
+    ensures { λ r. ⌜ inNumbers r ≡ entryOf (now (tag .entry)) (tableBy (now (tag .entry)) numbers) (now (index .entry)) channel ⌝ }
 {
     let start = numbers.start;
     let grid_at = numbers.grid_at;
@@ -162,7 +162,7 @@ pub fn view_of<'a>(tag: &'a [u8], numbers: TableNumbers) -> TableView<'a>
 
 // The entry of a grid index and an output channel, of the table that the view shows.
 pub fn look_up<'a, 'b>(view: TableView<'a>, index: &'b [u8], channel: u8) -> EntryAnswer
-    ensures { λ r. ⌜ paper r ≡ entryOf (now (view .entry .tag)) (tableBy (now (view .entry .tag)) (view .entry .numbers)) (now (index .entry)) channel ⌝ }
+    ensures { λ r. ⌜ inNumbers r ≡ entryOf (now (view .entry .tag)) (tableBy (now (view .entry .tag)) (view .entry .numbers)) (now (index .entry)) channel ⌝ }
 {
     entry_at(view.tag, view.numbers, index, channel)
 }

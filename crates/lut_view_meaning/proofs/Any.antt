@@ -9,9 +9,10 @@ use mathlib.Core.List.{List}
 use lib.Dec.{ltb}
 use lib.ListN.{length}
 use borrow.Author.Tests.{ltb-true, ltb-false}
+use Rattle.fields.proofs.Never.{never}
 use Rattle.fields.proofs.Choice.{each, first-holds, second-holds, neither-left, neither-right}
-use Rattle.lut_clut_meaning.specs.Table.{Table, inGrid, pointOf, numberOf}
-use Rattle.lut_view_meaning.specs.Answer.{Told, value, absent}
+use Rattle.lut_clut_meaning.specs.Table.{Table, inGrid, pointOf, entryNumber}
+use Rattle.lut_view_meaning.specs.Answer.{Answer, value, absent}
 use Rattle.lut_view_meaning.specs.View.{storedAt, entryFrom, entryOf}
 
 module _ (t : List ℕ) (table : Table) (index : List ℕ) (channel : ℕ) where
@@ -19,7 +20,7 @@ module _ (t : List ℕ) (table : Table) (index : List ℕ) (channel : ℕ) where
   unfolding entryOf
   invalid-absent = by (inGrid (table .grid) index) (ltb (pointOf (table .grid) index) (2 ^ 32)) (ltb channel (table .outputs))
     where
-      by : (a b c : Bool) → a && c ≡ false → cond (a && b && c) (entryFrom t (table .start) (table .size) (numberOf table index channel)) absent ≡ absent
+      by : (a b c : Bool) → a && c ≡ false → cond (a && b && c) (entryFrom t (table .start) (table .size) (entryNumber table index channel)) absent ≡ absent
       by true true c e = rw e
       by true false c e = refl
       by false b c e = refl
@@ -28,7 +29,7 @@ module _ (t : List ℕ) (table : Table) (index : List ℕ) (channel : ℕ) where
   unfolding entryOf entryFrom
   empty-absent e = by (inGrid (table .grid) index && ltb (pointOf (table .grid) index) (2 ^ 32) && ltb channel (table .outputs))
     where
-      by : (b : Bool) → cond b (entryFrom t (table .start) (table .size) (numberOf table index channel)) absent ≡ absent
+      by : (b : Bool) → cond b (entryFrom t (table .start) (table .size) (entryNumber table index channel)) absent ≡ absent
       by true = rw e
       by false = refl
 
@@ -37,20 +38,20 @@ module _ (t : List ℕ) (table : Table) (index : List ℕ) (channel : ℕ) where
     pub low : channel < table .outputs
     pub size-least : 1 ≤ table .size
     pub size-most : table .size ≤ 2
-    pub in-tag : table .start + (numberOf table index channel * table .size + table .size) ≤ length t
-    pub is : n ≡ storedAt t (table .start + numberOf table index channel * table .size) (table .size)
+    pub in-tag : table .start + (entryNumber table index channel * table .size + table .size) ≤ length t
+    pub is : n ≡ storedAt t (table .start + entryNumber table index channel * table .size) (table .size)
 
-  abbrev FoundAs : Told → Type 0
+  abbrev FoundAs : Answer → Type 0
   FoundAs a = (n : ℕ) → a ≡ value n → Found n
 
   nothing-found : FoundAs absent
-  nothing-found n e = let z : _≡_ {A = ℕ} 0 1 = cc in absurd (omega arith)
+  nothing-found n e = never cc
 
   pub found : FoundAs (entryOf t table index channel)
   unfolding entryOf entryFrom
   found =
       let s : ℕ = table .size in
-      let k : ℕ = numberOf table index channel in
+      let k : ℕ = entryNumber table index channel in
       each FoundAs (inGrid (table .grid) index && ltb (pointOf (table .grid) index) (2 ^ 32) && ltb channel (table .outputs)) _ _
       (λ v. each FoundAs (ltb s 1 || ltb 2 s) _ _ (λ _. nothing-found)
       (λ z. each FoundAs (ltb (length t) (table .start + (k * s + s))) _ _ (λ _. nothing-found)

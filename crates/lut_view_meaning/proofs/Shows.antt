@@ -12,16 +12,17 @@ use lib.Dec.{eqb}
 use lib.ListN.{length, getD, take, drop, replicate, length-take}
 use lib.Seq.{take-take}
 use borrow.Author.Tests.{lt-ltb, le-ltb}
+use Rattle.fields.specs.Checked.{good}
 use Rattle.fields.specs.Bytes.{bytesAt}
 use Rattle.fields.proofs.Words.{bytes-part}
-use Rattle.lut_clut_meaning.specs.Clut.{is, clutOf}
-use Rattle.lut_clut_meaning.specs.Table.{Table, lengthOf, inGrid, pointOf, numberOf}
+use Rattle.lut_clut_meaning.specs.Clut.{clutOf}
+use Rattle.lut_clut_meaning.specs.Table.{Table, lengthOf, inGrid, pointOf, entryNumber}
 use Rattle.lut_clut_meaning.proofs.Laid.{Accepted, accepted}
 use Rattle.curve_meaning.specs.declared.Walk.{Walk}
 use Rattle.lut_mft_meaning.specs.Answer.{Fields, fieldsOf, toldTable as Mft·toldTable}
 use Rattle.lut_mft_meaning.specs.Layout.{isWide, entrySize}
 use Rattle.lut_mft_meaning.proofs.Laid.{accepted as Mft·accepted}
-use Rattle.lut_meaning.specs.Abm.{noTable, tableOf, valueFrom, toldTable}
+use Rattle.lut_meaning.specs.Abm.{noTable, colourTableOf, valueFrom, toldTable}
 use Rattle.lut_meaning.specs.Answer.{Abm, State, Answer, mft, abm, absent as State·absent, refused}
 use Rattle.lut_meaning.specs.Layout.{inputs, outputs, clutOffset, gridOf}
 use Rattle.lut_meaning.specs.Lut.{tagOf, lutOf}
@@ -55,19 +56,19 @@ in-use t at n l h =
 pub record Shows (t : List ℕ) (v : TableNumbers) (table : Table) (bytes : ℕ) : Type 0 where
   pub table-is : tableBy t v ≡ table
   pub table-in-tag : table .start + bytes ≤ length t
-  pub entry-in-table : (index : List ℕ) (channel : ℕ) → inGrid (table .grid) index ≡ true → channel < table .outputs → numberOf table index channel * table .size + table .size ≤ bytes
-  pub entry-is : (index : List ℕ) (channel : ℕ) → inGrid (table .grid) index ≡ true → channel < table .outputs → entryOf t (tableBy t v) index channel ≡ value (storedAt t (table .start + numberOf table index channel * table .size) (table .size))
+  pub entry-in-table : (index : List ℕ) (channel : ℕ) → inGrid (table .grid) index ≡ true → channel < table .outputs → entryNumber table index channel * table .size + table .size ≤ bytes
+  pub entry-is : (index : List ℕ) (channel : ℕ) → inGrid (table .grid) index ≡ true → channel < table .outputs → entryOf t (tableBy t v) index channel ≡ value (storedAt t (table .start + entryNumber table index channel * table .size) (table .size))
 
 -- an entry in a tag of fewer than 2^32 bytes has such a number
-read : (t : List ℕ) (table : Table) (index : List ℕ) (channel : ℕ) → length t < 2 ^ 32 → 1 ≤ table .size → table .size ≤ 2 → inGrid (table .grid) index ≡ true → channel < table .outputs → table .start + (numberOf table index channel * table .size + table .size) ≤ length t → entryOf t table index channel ≡ value (storedAt t (table .start + numberOf table index channel * table .size) (table .size))
+read : (t : List ℕ) (table : Table) (index : List ℕ) (channel : ℕ) → length t < 2 ^ 32 → 1 ≤ table .size → table .size ≤ 2 → inGrid (table .grid) index ≡ true → channel < table .outputs → table .start + (entryNumber table index channel * table .size + table .size) ≤ length t → entryOf t table index channel ≡ value (storedAt t (table .start + entryNumber table index channel * table .size) (table .size))
 unfolding entryOf entryFrom
 read t table index channel short least most valid low inside =
     let p : ℕ = pointOf (table .grid) index in
     let one : 1 ≤ table .outputs = omega arith in
-    let few : p < 2 ^ 32 = omega (arith, mul-le-mul-left p one, mul-le-mul-left (numberOf table index channel) least) in
+    let few : p < 2 ^ 32 = omega (arith, mul-le-mul-left p one, mul-le-mul-left (entryNumber table index channel) least) in
     rw (valid, lt-ltb p _ few, lt-ltb _ _ low, le-ltb _ _ least, le-ltb _ _ most, le-ltb _ _ inside)
 
-shows : (t : List ℕ) (v : TableNumbers) (table : Table) (bytes : ℕ) → length t < 2 ^ 32 → (1 ≤ table .size) × (table .size ≤ 2) → tableBy t v ≡ table → table .start + bytes ≤ length t → ((index : List ℕ) (channel : ℕ) → inGrid (table .grid) index ≡ true → channel < table .outputs → numberOf table index channel * table .size + table .size ≤ bytes) → Shows t v table bytes
+shows : (t : List ℕ) (v : TableNumbers) (table : Table) (bytes : ℕ) → length t < 2 ^ 32 → (1 ≤ table .size) × (table .size ≤ 2) → tableBy t v ≡ table → table .start + bytes ≤ length t → ((index : List ℕ) (channel : ℕ) → inGrid (table .grid) index ≡ true → channel < table .outputs → entryNumber table index channel * table .size + table .size ≤ bytes) → Shows t v table bytes
 shows t v table bytes short sizes e whole within =
     record {
       table-is = e;
@@ -79,11 +80,11 @@ shows t v table bytes short sizes e whole within =
 -- ---- the numbers of each kind of answer
 
 -- a colour table that is there is laid out as the standard says, and its grid bytes are answered
-laid-out : (t : List ℕ) (table : Table) → tableOf t ≡ is table → 1 ≤ table .size → (gridOf t ≡ bytesAt t (clutOffset t) 16) × Accepted t (clutOffset t) (inputs t) (outputs t) table
-unfolding tableOf gridOf
+laid-out : (t : List ℕ) (table : Table) → colourTableOf t ≡ good table → 1 ≤ table .size → (gridOf t ≡ bytesAt t (clutOffset t) 16) × Accepted t (clutOffset t) (inputs t) (outputs t) table
+unfolding colourTableOf gridOf
 laid-out t table = by (eqb (clutOffset t) 0)
   where
-    by : (b : Bool) → cond b (is noTable) (clutOf t (clutOffset t) (inputs t) (outputs t)) ≡ is table → 1 ≤ table .size → (cond b (replicate 16 0) (bytesAt t (clutOffset t) 16) ≡ bytesAt t (clutOffset t) 16) × Accepted t (clutOffset t) (inputs t) (outputs t) table
+    by : (b : Bool) → cond b (good noTable) (clutOf t (clutOffset t) (inputs t) (outputs t)) ≡ good table → 1 ≤ table .size → (cond b (replicate 16 0) (bytesAt t (clutOffset t) 16) ≡ bytesAt t (clutOffset t) 16) × Accepted t (clutOffset t) (inputs t) (outputs t) table
     by true h l = let e : 0 ≡ table .size = cc in absurd (omega arith)
     by false h l = (refl, accepted t (clutOffset t) (inputs t) (outputs t) table h)
 

@@ -5,23 +5,23 @@ use mathlib.Core.List.{List}
 use Prim.Native.Nat.{ℕ}
 use denote.Ref.{RefT}
 use Rattle.fields.proofs.Once.{once}
-use Rattle.lut_view_meaning.specs.Answer.{Told, value, absent, paper}
+use Rattle.lut_view_meaning.specs.Answer.{Answer, value, absent, inNumbers}
 use Rattle.lut_view_meaning.specs.declared.EntryAnswer.{EntryAnswer}
 use Rattle.lut_view_meaning.specs.declared.TableNumbers.{TableNumbers}
 use Rattle.lut_view_meaning.specs.declared.TableView.{TableView}
 
 -- the result that stands for an answer
-abbrev resultFrom : Told → EntryAnswer
+abbrev resultFrom : Answer → EntryAnswer
 resultFrom (value n) = EntryAnswer.Value n
 resultFrom absent = EntryAnswer.Absent
 
-back : (r : EntryAnswer) → resultFrom (paper r) ≡ r
+back : (r : EntryAnswer) → resultFrom (inNumbers r) ≡ r
 back (EntryAnswer.Value n) = refl
 back EntryAnswer.Absent = refl
 
 -- two results that stand for the same answer are one
-pub unique : (a : Told) (r s : EntryAnswer) → paper r ≡ a → paper s ≡ a → r ≡ s
-unique = once paper resultFrom back
+pub unique : (a : Answer) (r s : EntryAnswer) → inNumbers r ≡ a → inNumbers s ≡ a → r ≡ s
+unique = once inNumbers resultFrom back
 
 -- two views of one tag by the same numbers are one
 pub one-view : (tag : RefT (List ℕ)) (n : TableNumbers) (r s : TableView) → (r .tag ≡ tag) × (r .numbers ≡ n) → (s .tag ≡ tag) × (s .numbers ≡ n) → r ≡ s

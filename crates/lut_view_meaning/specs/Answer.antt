@@ -3,11 +3,11 @@ use Prim.Native.Nat.{ℕ}
 use Rattle.lut_view_meaning.specs.declared.EntryAnswer.{EntryAnswer}
 
 -- the entry as it is stored, or none
-pub data Told : Type 0 where
-  value : ℕ → Told
-  absent : Told
+pub data Answer : Type 0 where
+  value : ℕ → Answer
+  absent : Answer
 
 -- the numbers that a result stands for
-abbrev pub paper : EntryAnswer → Told
-paper (EntryAnswer.Value n) = value n
-paper EntryAnswer.Absent = absent
+abbrev pub inNumbers : EntryAnswer → Answer
+inNumbers (EntryAnswer.Value n) = value n
+inNumbers EntryAnswer.Absent = absent

@@ -5,13 +5,13 @@ use mathlib.Core.Bool.{true}
 use mathlib.Core.List.{List, [], _∷_, _++_}
 use lib.ListN.{replicate}
 use Rattle.lut_meaning.specs.Answer.{State, mft, abm, absent as State·absent, refused}
-use Rattle.lut_view_meaning.specs.Answer.{Told, value, absent}
+use Rattle.lut_view_meaning.specs.Answer.{Answer, value, absent}
 use Rattle.lut_view_meaning.specs.View.{noNumbers, numbersOf, tableBy, entryOf}
 use Rattle.lut_view_meaning.specs.declared.TableNumbers.{TableNumbers}
 
 -- tag, the numbers of the view, index, channel, and the answer; and an answer of the reader of lookup tables, and its numbers
 pub data Case : Type 0 where
-  reads : List ℕ → TableNumbers → List ℕ → ℕ → Told → Case
+  reads : List ℕ → TableNumbers → List ℕ → ℕ → Answer → Case
   numbers : State → TableNumbers → Case
 
 unfoldable pub Holds : Case → Type 0

@@ -5,9 +5,9 @@ use mathlib.Core.List.{List, [], _∷_}
 use lib.Dec.{ltb, eqb}
 use lib.ListN.{length, getD}
 use Rattle.fields.specs.Bytes.{u16At}
-use Rattle.lut_clut_meaning.specs.Table.{Table, inGrid, pointOf, numberOf}
+use Rattle.lut_clut_meaning.specs.Table.{Table, inGrid, pointOf, entryNumber}
 use Rattle.lut_meaning.specs.Answer.{State, mft, abm, absent as State·absent, refused}
-use Rattle.lut_view_meaning.specs.Answer.{Told, value, absent}
+use Rattle.lut_view_meaning.specs.Answer.{Answer, value, absent}
 use Rattle.lut_view_meaning.specs.declared.TableNumbers.{TableNumbers}
 
 -- n grid bytes from a place on, each a step behind the one before it
@@ -38,14 +38,14 @@ abbrev pub storedAt : List ℕ → ℕ → ℕ → ℕ
 storedAt t at size = cond (eqb size 1) (getD t at 0) (u16At t at)
 
 -- an entry by its number, of those from start on: absent unless it has one byte or two and lies in the tag
-unfoldable pub entryFrom : List ℕ → ℕ → ℕ → ℕ → Told
+unfoldable pub entryFrom : List ℕ → ℕ → ℕ → ℕ → Answer
 entryFrom t start size number =
     cond (ltb size 1 || ltb 2 size) absent (
     cond (ltb (length t) (start + (number * size + size))) absent (
     value (storedAt t (start + number * size) size)))
 
 -- the entry of an index in the grid and a channel below the outputs; a point's number is asked to fit 32 bits
-unfoldable pub entryOf : List ℕ → Table → List ℕ → ℕ → Told
+unfoldable pub entryOf : List ℕ → Table → List ℕ → ℕ → Answer
 entryOf t table index channel =
     cond (inGrid (table .grid) index && ltb (pointOf (table .grid) index) (2 ^ 32) && ltb channel (table .outputs))
-    (entryFrom t (table .start) (table .size) (numberOf table index channel)) absent
+    (entryFrom t (table .start) (table .size) (entryNumber table index channel)) absent

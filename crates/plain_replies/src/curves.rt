@@ -1,8 +1,8 @@
 // Readers 2 and 12: the tone curve.
+use answers_jobs::StreamJob;
 use curve::CurveAnswer;
 use curve::Walk;
 use fields::Entry;
-use answers_jobs::StreamJob;
 ghost use Rattle.curve_meaning.specs.Curve.{trcOf};
 ghost use Rattle.lines.specs.Text.{Wrote};
 ghost use Rattle.answers_meaning.specs.Plain.{curveText};

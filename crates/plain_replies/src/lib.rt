@@ -3,17 +3,17 @@
 mod curves;
 mod smalls;
 
+use answers_jobs::StreamJob;
 use curve::Walk;
 use fields::Refusal;
-use answers_jobs::StreamJob;
-ghost use Rattle.fields.specs.Refusals.{numberOf};
+ghost use Rattle.fields.specs.Refusals.{refusalNumber};
 ghost use Rattle.lines.specs.Text.{Wrote};
 ghost use Rattle.answers_meaning.specs.Plain.{plainOf};
 ghost use Rattle.answers_meaning.specs.Words.{refusedText};
 
 // Puts a refusal of any reader.
 pub fn put_refused(line: &mut [u8], why: Refusal) -> usize
-    ensures { λ r. ⌜ Wrote (now (line .entry)) (now (line .exit)) 0 r (refusedText (numberOf why)) ⌝ }
+    ensures { λ r. ⌜ Wrote (now (line .entry)) (now (line .exit)) 0 r (refusedText (refusalNumber why)) ⌝ }
 {
     let word = lines::put(line, 0, b"refused");
     lines::put_number(line, word, b' ', why.number() as u64)

@@ -1,7 +1,7 @@
 // Readers 4 to 10: the small readers.
-use small_chad::ChadAnswer;
-use fields::Entry;
 use answers_jobs::StreamJob;
+use fields::Entry;
+use small_chad::ChadAnswer;
 use small_raw::CicpAnswer;
 use small_raw::DateAnswer;
 use small_raw::SigAnswer;

@@ -7,12 +7,12 @@ use fields::Refusal;
 pub use small_meaning::ChadAnswer;
 pub use small_meaning::ChadMatrix;
 ghost use mathlib.Core.Path.{_≡_};
-ghost use Rattle.small_meaning.specs.Answer.{nine, paperChad};
+ghost use Rattle.small_meaning.specs.Answer.{matrixNumbers, chadInNumbers};
 ghost use Rattle.small_meaning.specs.Layout.{nineNumbers};
 ghost use Rattle.small_meaning.specs.Small.{matrixOf, chadOf};
 
 fn matrix_at(tag: &[u8]) -> ChadMatrix
-    ensures { λ r. ⌜ nine r ≡ nineNumbers (now (tag .entry)) ⌝ }
+    ensures { λ r. ⌜ matrixNumbers r ≡ nineNumbers (now (tag .entry)) ⌝ }
 {
     ChadMatrix {
         e00: fields::u32_at(tag, InTag(8)),
@@ -29,7 +29,7 @@ fn matrix_at(tag: &[u8]) -> ChadMatrix
 
 // A tag of 44 to 47 bytes.
 fn read_matrix(tag: &[u8]) -> ChadAnswer
-    ensures { λ r. ⌜ paperChad r ≡ matrixOf (now (tag .entry)) ⌝ }
+    ensures { λ r. ⌜ chadInNumbers r ≡ matrixOf (now (tag .entry)) ⌝ }
 {
     if fields::u32_at(tag, InTag(0)) != Kind::SF32 {
         return ChadAnswer::Refused(Refusal::BadChad);
@@ -42,7 +42,7 @@ fn read_matrix(tag: &[u8]) -> ChadAnswer
 
 // The chromatic adaptation matrix whose tag stands at `entry`, of `size` bytes.
 pub fn read_chad_tag(profile: &[u8], entry: Entry, size: u32) -> ChadAnswer
-    ensures { λ r. ⌜ paperChad r ≡ chadOf (now (profile .entry)) (entry .0) size ⌝ }
+    ensures { λ r. ⌜ chadInNumbers r ≡ chadOf (now (profile .entry)) (entry .0) size ⌝ }
 {
     let place = fields::locate(profile, entry, InTag(size as u64));
     let Place::In { from, to } = place else {

@@ -19,7 +19,7 @@ use Rattle.fields.specs.declared.Kind.{Kind}
 use Rattle.fields.specs.declared.Kind.the-variants.{Xyz, Meas, View, Cicp as KindCicp, Sig, Dtim}
 use Rattle.fields.proofs.Append.{u32-append}
 use Rattle.fields.proofs.Words.{words-length}
-use Rattle.small_meaning.specs.Answer.{Answer, value, default, absent, refused, paperChad, paperSig, paperCicp, paperXyz, paperMeas, paperView}
+use Rattle.small_meaning.specs.Answer.{Answer, value, default, absent, refused, chadInNumbers, sigInNumbers, cicpInNumbers, xyzInNumbers, measInNumbers, viewInNumbers}
 use Rattle.small_meaning.specs.Layout.{nineNumbers, signatureIn, dateBytes, measurement, conditions, firstXyz, codePoints}
 use Rattle.small_meaning.specs.Order.{foundOf, answerTo}
 use Rattle.small_meaning.specs.Small.{matrixOf, chadOf, sigOf, dateOf, windowOf, measOf, viewOf, tripleOf, xyzOf, cicpOf}
@@ -292,23 +292,23 @@ date-written p entry size ws b v =
 
 -- ---- the numbers of an answer stand under the standard's names in what the code answers
 
-pub chad-named : (e1 e2 e3 e4 e5 e6 e7 e8 e9 : ℕ) → paperChad (ChadAnswer.Value record { e00 = e1; e01 = e2; e02 = e3; e10 = e4; e11 = e5; e12 = e6; e20 = e7; e21 = e8; e22 = e9 }) ≡ value (e1 ∷ e2 ∷ e3 ∷ e4 ∷ e5 ∷ e6 ∷ e7 ∷ e8 ∷ e9 ∷ [])
+pub chad-named : (e1 e2 e3 e4 e5 e6 e7 e8 e9 : ℕ) → chadInNumbers (ChadAnswer.Value record { e00 = e1; e01 = e2; e02 = e3; e10 = e4; e11 = e5; e12 = e6; e20 = e7; e21 = e8; e22 = e9 }) ≡ value (e1 ∷ e2 ∷ e3 ∷ e4 ∷ e5 ∷ e6 ∷ e7 ∷ e8 ∷ e9 ∷ [])
 chad-named e1 e2 e3 e4 e5 e6 e7 e8 e9 = refl
 
-pub sig-named : (n : ℕ) → paperSig (SigAnswer.Value n) ≡ value (signatureTold n)
+pub sig-named : (n : ℕ) → sigInNumbers (SigAnswer.Value n) ≡ value (signatureTold n)
 sig-named n = refl
 
-pub cicp-named : (c : Cicp) → paperCicp (CicpAnswer.Value record { primaries = c .primaries; transfer = c .transfer; matrix = c .matrix; range = c .range }) ≡ value (cicpTold c)
+pub cicp-named : (c : Cicp) → cicpInNumbers (CicpAnswer.Value record { primaries = c .primaries; transfer = c .transfer; matrix = c .matrix; range = c .range }) ≡ value (cicpTold c)
 cicp-named c = refl
 
 abbrev named : XYZNumber → XyzNumber
 named n = record { x = n .X; y = n .Y; z = n .Z }
 
-pub xyz-named : (x : SomeXyz) → paperXyz (XyzAnswer.Value (named (x .first))) ≡ value (firstTold x)
+pub xyz-named : (x : SomeXyz) → xyzInNumbers (XyzAnswer.Value (named (x .first))) ≡ value (firstTold x)
 xyz-named x = refl
 
-pub meas-named : (m : Measurement) → paperMeas (MeasAnswer.Value record { observer = m .observer; backing = named (m .backing); geometry = m .geometry; flare = m .flare; illuminant = m .illuminant }) ≡ value (measurementTold m)
+pub meas-named : (m : Measurement) → measInNumbers (MeasAnswer.Value record { observer = m .observer; backing = named (m .backing); geometry = m .geometry; flare = m .flare; illuminant = m .illuminant }) ≡ value (measurementTold m)
 meas-named m = refl
 
-pub view-named : (v : ViewingConditions) → paperView (ViewAnswer.Value record { illuminant = named (v .illuminant); surround = named (v .surround); number = v .type }) ≡ value (viewTold v)
+pub view-named : (v : ViewingConditions) → viewInNumbers (ViewAnswer.Value record { illuminant = named (v .illuminant); surround = named (v .surround); number = v .type }) ≡ value (viewTold v)
 view-named v = refl

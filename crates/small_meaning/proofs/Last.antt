@@ -6,6 +6,7 @@ use mathlib.Core.Path.{_≡_}
 use mathlib.Core.List.{List}
 use lib.Dec.{ltb, eqb}
 use lib.ListN.{length}
+use Rattle.fields.proofs.Never.{never}
 use Rattle.fields.specs.Bytes.{u32At}
 use Rattle.fields.specs.Place.{tagAt}
 use Rattle.fields.specs.Tag.{signatureOf}
@@ -20,13 +21,13 @@ abbrev pub Not14 : Answer → Type 0
 Not14 a = a ≡ refused 14 → ⊥
 
 valued : {ws : List ℕ} → Not14 (value ws)
-valued h = let z : _≡_ {A = ℕ} 0 1 = cc in omega arith
+valued h = never cc
 
 none : Not14 absent
-none h = let z : _≡_ {A = ℕ} 0 1 = cc in omega arith
+none h = never cc
 
 standard : Not14 default
-standard h = let z : _≡_ {A = ℕ} 0 1 = cc in omega arith
+standard h = never cc
 
 other : (n : ℕ) → (n ≡ 14 → ⊥) → Not14 (refused n)
 other n f h = f cc

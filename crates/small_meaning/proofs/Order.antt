@@ -7,6 +7,7 @@ use mathlib.Core.List.{List}
 use lib.Dec.{ltb, eqb}
 use lib.ListN.{length, take, drop}
 use borrow.Author.Tests.{eq-eqb, ne-eqb, lt-ltb, le-ltb, ltb-false, eqb-true}
+use Rattle.fields.proofs.Never.{never}
 use Rattle.fields.specs.Bytes.{u32At}
 use Rattle.fields.specs.Place.{placeOf, tagAt}
 use Rattle.fields.specs.declared.Place.{Place}
@@ -58,11 +59,11 @@ module _ (least end signature : ℕ) (p : List ℕ) (entry size : ℕ) where
   unfolding foundOf
   tagged {from} {to} =
       let P : Found → Type 0 = λ f. f ≡ Found.Tag from to → Tagged least end signature p entry size from to in
-      each P (ltb size least) _ _ (λ _ e. let z : _≡_ {A = ℕ} 0 1 = cc in absurd (omega arith))
-      (λ l. each P (ltb (length p) (entry + end)) _ _ (λ _ e. let z : _≡_ {A = ℕ} 0 1 = cc in absurd (omega arith))
+      each P (ltb size least) _ _ (λ _ e. never cc)
+      (λ l. each P (ltb (length p) (entry + end)) _ _ (λ _ e. never cc)
       (λ f. each P (eqb (u32At (tagAt p entry end) 0) signature) _ _
       (λ t e. record { long = ltb-false _ _ l; fits = ltb-false _ _ f; typed = eqb-true _ _ t; from-is = cc; to-is = cc })
-      (λ _ e. let z : _≡_ {A = ℕ} 0 1 = cc in absurd (omega arith))))
+      (λ _ e. never cc)))
 
   module _ {f : Found} (h : f ≡ foundOf least end signature p entry size) {from to : ℕ} (e : f ≡ Found.Tag from to) where
     -- the bounds that its bytes ask of the profile
@@ -112,13 +113,13 @@ abbrev pub Silent : Answer → Type 0
 Silent a = (ws : List ℕ) → a ≡ value ws → ⊥
 
 pub no-absence : Silent absent
-no-absence ws e = let z : _≡_ {A = ℕ} 0 1 = cc in omega arith
+no-absence ws e = never cc
 
 pub no-default : Silent default
-no-default ws e = let z : _≡_ {A = ℕ} 0 1 = cc in omega arith
+no-default ws e = never cc
 
 pub no-refusal : (n : ℕ) → Silent (refused n)
-no-refusal n ws e = let z : _≡_ {A = ℕ} 0 1 = cc in omega arith
+no-refusal n ws e = never cc
 
 pub record Met (least end signature : ℕ) (p : List ℕ) (entry size : ℕ) (this : Answer) (ws : List ℕ) : Type 0 where
   pub long : least ≤ size

@@ -6,7 +6,7 @@ use mathlib.Core.List.{List}
 use lib.ListN.{getD}
 use Rattle.fields.proofs.Numbers.{nameOf, named}
 use Rattle.fields.proofs.Once.{once}
-use Rattle.small_meaning.specs.Answer.{Answer, value, default, absent, refused, paperChad, paperSig, paperDate, paperMeas, paperView, paperXyz, paperCicp}
+use Rattle.small_meaning.specs.Answer.{Answer, value, default, absent, refused, chadInNumbers, sigInNumbers, dateInNumbers, measInNumbers, viewInNumbers, xyzInNumbers, cicpInNumbers}
 use Rattle.small_meaning.specs.declared.ChadAnswer.{ChadAnswer}
 use Rattle.small_meaning.specs.declared.CicpAnswer.{CicpAnswer}
 use Rattle.small_meaning.specs.declared.DateAnswer.{DateAnswer}
@@ -24,13 +24,13 @@ chadFrom default = ChadAnswer.Absent
 chadFrom absent = ChadAnswer.Absent
 chadFrom (refused n) = ChadAnswer.Refused (nameOf n)
 
-chad-back : (r : ChadAnswer) → chadFrom (paperChad r) ≡ r
+chad-back : (r : ChadAnswer) → chadFrom (chadInNumbers r) ≡ r
 chad-back (ChadAnswer.Value m) = refl
 chad-back ChadAnswer.Absent = refl
 chad-back (ChadAnswer.Refused why) = ap ChadAnswer.Refused (named why)
 
-pub chad-unique : (a : Answer) (r s : ChadAnswer) → paperChad r ≡ a → paperChad s ≡ a → r ≡ s
-chad-unique = once paperChad chadFrom chad-back
+pub chad-unique : (a : Answer) (r s : ChadAnswer) → chadInNumbers r ≡ a → chadInNumbers s ≡ a → r ≡ s
+chad-unique = once chadInNumbers chadFrom chad-back
 
 -- ---- `sig `
 
@@ -40,13 +40,13 @@ sigFrom default = SigAnswer.Absent
 sigFrom absent = SigAnswer.Absent
 sigFrom (refused n) = SigAnswer.Refused (nameOf n)
 
-sig-back : (r : SigAnswer) → sigFrom (paperSig r) ≡ r
+sig-back : (r : SigAnswer) → sigFrom (sigInNumbers r) ≡ r
 sig-back (SigAnswer.Value signature) = refl
 sig-back SigAnswer.Absent = refl
 sig-back (SigAnswer.Refused why) = ap SigAnswer.Refused (named why)
 
-pub sig-unique : (a : Answer) (r s : SigAnswer) → paperSig r ≡ a → paperSig s ≡ a → r ≡ s
-sig-unique = once paperSig sigFrom sig-back
+pub sig-unique : (a : Answer) (r s : SigAnswer) → sigInNumbers r ≡ a → sigInNumbers s ≡ a → r ≡ s
+sig-unique = once sigInNumbers sigFrom sig-back
 
 -- ---- `dtim`
 
@@ -71,13 +71,13 @@ dateFrom default = DateAnswer.Absent
 dateFrom absent = DateAnswer.Absent
 dateFrom (refused n) = DateAnswer.Refused (nameOf n)
 
-date-back : (r : DateAnswer) → dateFrom (paperDate r) ≡ r
+date-back : (r : DateAnswer) → dateFrom (dateInNumbers r) ≡ r
 date-back (DateAnswer.Value d) = refl
 date-back DateAnswer.Absent = refl
 date-back (DateAnswer.Refused why) = ap DateAnswer.Refused (named why)
 
-pub date-unique : (a : Answer) (r s : DateAnswer) → paperDate r ≡ a → paperDate s ≡ a → r ≡ s
-date-unique = once paperDate dateFrom date-back
+pub date-unique : (a : Answer) (r s : DateAnswer) → dateInNumbers r ≡ a → dateInNumbers s ≡ a → r ≡ s
+date-unique = once dateInNumbers dateFrom date-back
 
 -- ---- `XYZ `, and the XYZNumbers of others
 
@@ -91,13 +91,13 @@ xyzFrom default = XyzAnswer.Default
 xyzFrom absent = XyzAnswer.Default
 xyzFrom (refused n) = XyzAnswer.Refused (nameOf n)
 
-xyz-back : (r : XyzAnswer) → xyzFrom (paperXyz r) ≡ r
+xyz-back : (r : XyzAnswer) → xyzFrom (xyzInNumbers r) ≡ r
 xyz-back (XyzAnswer.Value n) = refl
 xyz-back XyzAnswer.Default = refl
 xyz-back (XyzAnswer.Refused why) = ap XyzAnswer.Refused (named why)
 
-pub xyz-unique : (a : Answer) (r s : XyzAnswer) → paperXyz r ≡ a → paperXyz s ≡ a → r ≡ s
-xyz-unique = once paperXyz xyzFrom xyz-back
+pub xyz-unique : (a : Answer) (r s : XyzAnswer) → xyzInNumbers r ≡ a → xyzInNumbers s ≡ a → r ≡ s
+xyz-unique = once xyzInNumbers xyzFrom xyz-back
 
 -- ---- `meas`
 
@@ -107,13 +107,13 @@ measFrom default = MeasAnswer.Absent
 measFrom absent = MeasAnswer.Absent
 measFrom (refused n) = MeasAnswer.Refused (nameOf n)
 
-meas-back : (r : MeasAnswer) → measFrom (paperMeas r) ≡ r
+meas-back : (r : MeasAnswer) → measFrom (measInNumbers r) ≡ r
 meas-back (MeasAnswer.Value m) = refl
 meas-back MeasAnswer.Absent = refl
 meas-back (MeasAnswer.Refused why) = ap MeasAnswer.Refused (named why)
 
-pub meas-unique : (a : Answer) (r s : MeasAnswer) → paperMeas r ≡ a → paperMeas s ≡ a → r ≡ s
-meas-unique = once paperMeas measFrom meas-back
+pub meas-unique : (a : Answer) (r s : MeasAnswer) → measInNumbers r ≡ a → measInNumbers s ≡ a → r ≡ s
+meas-unique = once measInNumbers measFrom meas-back
 
 -- ---- `view`
 
@@ -123,13 +123,13 @@ viewFrom default = ViewAnswer.Absent
 viewFrom absent = ViewAnswer.Absent
 viewFrom (refused n) = ViewAnswer.Refused (nameOf n)
 
-view-back : (r : ViewAnswer) → viewFrom (paperView r) ≡ r
+view-back : (r : ViewAnswer) → viewFrom (viewInNumbers r) ≡ r
 view-back (ViewAnswer.Value v) = refl
 view-back ViewAnswer.Absent = refl
 view-back (ViewAnswer.Refused why) = ap ViewAnswer.Refused (named why)
 
-pub view-unique : (a : Answer) (r s : ViewAnswer) → paperView r ≡ a → paperView s ≡ a → r ≡ s
-view-unique = once paperView viewFrom view-back
+pub view-unique : (a : Answer) (r s : ViewAnswer) → viewInNumbers r ≡ a → viewInNumbers s ≡ a → r ≡ s
+view-unique = once viewInNumbers viewFrom view-back
 
 -- ---- `cicp`
 
@@ -139,10 +139,10 @@ cicpFrom default = CicpAnswer.Absent
 cicpFrom absent = CicpAnswer.Absent
 cicpFrom (refused n) = CicpAnswer.Refused (nameOf n)
 
-cicp-back : (r : CicpAnswer) → cicpFrom (paperCicp r) ≡ r
+cicp-back : (r : CicpAnswer) → cicpFrom (cicpInNumbers r) ≡ r
 cicp-back (CicpAnswer.Value c) = refl
 cicp-back CicpAnswer.Absent = refl
 cicp-back (CicpAnswer.Refused why) = ap CicpAnswer.Refused (named why)
 
-pub cicp-unique : (a : Answer) (r s : CicpAnswer) → paperCicp r ≡ a → paperCicp s ≡ a → r ≡ s
-cicp-unique = once paperCicp cicpFrom cicp-back
+pub cicp-unique : (a : Answer) (r s : CicpAnswer) → cicpInNumbers r ≡ a → cicpInNumbers s ≡ a → r ≡ s
+cicp-unique = once cicpInNumbers cicpFrom cicp-back

@@ -1,7 +1,7 @@
 -- What the small readers answer, in numbers.
 use Prim.Native.Nat.{ℕ}
 use mathlib.Core.List.{List, [], _∷_, _++_}
-use Rattle.fields.specs.Refusals.{numberOf}
+use Rattle.fields.specs.Refusals.{refusalNumber}
 use Rattle.small_meaning.specs.declared.ChadMatrix.{ChadMatrix}
 use Rattle.small_meaning.specs.declared.ChadAnswer.{ChadAnswer}
 use Rattle.small_meaning.specs.declared.CicpCodes.{CicpCodes}
@@ -24,57 +24,57 @@ pub data Answer : Type 0 where
   refused : ℕ → Answer
 
 -- the numbers of each record
-abbrev pub nine : ChadMatrix → List ℕ
-nine m = m .e00 ∷ m .e01 ∷ m .e02 ∷ m .e10 ∷ m .e11 ∷ m .e12 ∷ m .e20 ∷ m .e21 ∷ m .e22 ∷ []
+abbrev pub matrixNumbers : ChadMatrix → List ℕ
+matrixNumbers m = m .e00 ∷ m .e01 ∷ m .e02 ∷ m .e10 ∷ m .e11 ∷ m .e12 ∷ m .e20 ∷ m .e21 ∷ m .e22 ∷ []
 
-abbrev pub twelve : DateBytes → List ℕ
-twelve d =
+abbrev pub dateNumbers : DateBytes → List ℕ
+dateNumbers d =
     d .byte8 ∷ d .byte9 ∷ d .byte10 ∷ d .byte11 ∷ d .byte12 ∷ d .byte13 ∷ d .byte14 ∷ d .byte15 ∷ d .byte16 ∷ d .byte17 ∷ d .byte18 ∷ d .byte19 ∷ []
 
-abbrev pub triple : XyzNumber → List ℕ
-triple n = n .x ∷ n .y ∷ n .z ∷ []
+abbrev pub xyzNumbers : XyzNumber → List ℕ
+xyzNumbers n = n .x ∷ n .y ∷ n .z ∷ []
 
-abbrev pub measured : Measurement → List ℕ
-measured m = m .observer ∷ triple (m .backing) ++ (m .geometry ∷ m .flare ∷ m .illuminant ∷ [])
+abbrev pub measurementNumbers : Measurement → List ℕ
+measurementNumbers m = m .observer ∷ xyzNumbers (m .backing) ++ (m .geometry ∷ m .flare ∷ m .illuminant ∷ [])
 
-abbrev pub viewed : ViewingConditions → List ℕ
-viewed v = triple (v .illuminant) ++ triple (v .surround) ++ (v .number ∷ [])
+abbrev pub viewingNumbers : ViewingConditions → List ℕ
+viewingNumbers v = xyzNumbers (v .illuminant) ++ xyzNumbers (v .surround) ++ (v .number ∷ [])
 
-abbrev pub codes : CicpCodes → List ℕ
-codes c = c .primaries ∷ c .transfer ∷ c .matrix ∷ c .range ∷ []
+abbrev pub codeNumbers : CicpCodes → List ℕ
+codeNumbers c = c .primaries ∷ c .transfer ∷ c .matrix ∷ c .range ∷ []
 
 -- the numbers that each result stands for
-abbrev pub paperChad : ChadAnswer → Answer
-paperChad (ChadAnswer.Value m) = value (nine m)
-paperChad ChadAnswer.Absent = absent
-paperChad (ChadAnswer.Refused why) = refused (numberOf why)
+abbrev pub chadInNumbers : ChadAnswer → Answer
+chadInNumbers (ChadAnswer.Value m) = value (matrixNumbers m)
+chadInNumbers ChadAnswer.Absent = absent
+chadInNumbers (ChadAnswer.Refused why) = refused (refusalNumber why)
 
-abbrev pub paperSig : SigAnswer → Answer
-paperSig (SigAnswer.Value signature) = value (signature ∷ [])
-paperSig SigAnswer.Absent = absent
-paperSig (SigAnswer.Refused why) = refused (numberOf why)
+abbrev pub sigInNumbers : SigAnswer → Answer
+sigInNumbers (SigAnswer.Value signature) = value (signature ∷ [])
+sigInNumbers SigAnswer.Absent = absent
+sigInNumbers (SigAnswer.Refused why) = refused (refusalNumber why)
 
-abbrev pub paperDate : DateAnswer → Answer
-paperDate (DateAnswer.Value d) = value (twelve d)
-paperDate DateAnswer.Absent = absent
-paperDate (DateAnswer.Refused why) = refused (numberOf why)
+abbrev pub dateInNumbers : DateAnswer → Answer
+dateInNumbers (DateAnswer.Value d) = value (dateNumbers d)
+dateInNumbers DateAnswer.Absent = absent
+dateInNumbers (DateAnswer.Refused why) = refused (refusalNumber why)
 
-abbrev pub paperMeas : MeasAnswer → Answer
-paperMeas (MeasAnswer.Value m) = value (measured m)
-paperMeas MeasAnswer.Absent = absent
-paperMeas (MeasAnswer.Refused why) = refused (numberOf why)
+abbrev pub measInNumbers : MeasAnswer → Answer
+measInNumbers (MeasAnswer.Value m) = value (measurementNumbers m)
+measInNumbers MeasAnswer.Absent = absent
+measInNumbers (MeasAnswer.Refused why) = refused (refusalNumber why)
 
-abbrev pub paperView : ViewAnswer → Answer
-paperView (ViewAnswer.Value v) = value (viewed v)
-paperView ViewAnswer.Absent = absent
-paperView (ViewAnswer.Refused why) = refused (numberOf why)
+abbrev pub viewInNumbers : ViewAnswer → Answer
+viewInNumbers (ViewAnswer.Value v) = value (viewingNumbers v)
+viewInNumbers ViewAnswer.Absent = absent
+viewInNumbers (ViewAnswer.Refused why) = refused (refusalNumber why)
 
-abbrev pub paperXyz : XyzAnswer → Answer
-paperXyz (XyzAnswer.Value n) = value (triple n)
-paperXyz XyzAnswer.Default = default
-paperXyz (XyzAnswer.Refused why) = refused (numberOf why)
+abbrev pub xyzInNumbers : XyzAnswer → Answer
+xyzInNumbers (XyzAnswer.Value n) = value (xyzNumbers n)
+xyzInNumbers XyzAnswer.Default = default
+xyzInNumbers (XyzAnswer.Refused why) = refused (refusalNumber why)
 
-abbrev pub paperCicp : CicpAnswer → Answer
-paperCicp (CicpAnswer.Value c) = value (codes c)
-paperCicp CicpAnswer.Absent = absent
-paperCicp (CicpAnswer.Refused why) = refused (numberOf why)
+abbrev pub cicpInNumbers : CicpAnswer → Answer
+cicpInNumbers (CicpAnswer.Value c) = value (codeNumbers c)
+cicpInNumbers CicpAnswer.Absent = absent
+cicpInNumbers (CicpAnswer.Refused why) = refused (refusalNumber why)

@@ -8,7 +8,7 @@ use small_meaning::CicpAnswer;
 use small_meaning::CicpCodes;
 use small_meaning::Found;
 ghost use mathlib.Core.Path.{_≡_};
-ghost use Rattle.small_meaning.specs.Answer.{codes, paperCicp};
+ghost use Rattle.small_meaning.specs.Answer.{codeNumbers, cicpInNumbers};
 ghost use Rattle.small_meaning.specs.Layout.{codePoints, fullRange};
 ghost use Rattle.small_meaning.specs.Small.{cicpOf};
 
@@ -20,7 +20,7 @@ pub fn full_range(code: CicpCodes) -> bool
 }
 
 fn codes_at(tag: &[u8]) -> CicpCodes
-    ensures { λ r. ⌜ codes r ≡ codePoints (now (tag .entry)) ⌝ }
+    ensures { λ r. ⌜ codeNumbers r ≡ codePoints (now (tag .entry)) ⌝ }
 {
     CicpCodes {
         primaries: fields::u8_at(tag, InTag(8)),
@@ -32,7 +32,7 @@ fn codes_at(tag: &[u8]) -> CicpCodes
 
 // The four code points of the tag at `entry`, of `size` bytes. No code is refused.
 pub fn read_cicp_tag(profile: &[u8], entry: Entry, size: u32) -> CicpAnswer
-    ensures { λ r. ⌜ paperCicp r ≡ cicpOf (now (profile .entry)) (entry .0) size ⌝ }
+    ensures { λ r. ⌜ cicpInNumbers r ≡ cicpOf (now (profile .entry)) (entry .0) size ⌝ }
 {
     let found = small_order::find(profile, entry, size, TAG_SIZE, size, Kind::CICP);
     match found {

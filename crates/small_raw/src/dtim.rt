@@ -7,12 +7,12 @@ use small_meaning::DateAnswer;
 use small_meaning::DateBytes;
 use small_meaning::Found;
 ghost use mathlib.Core.Path.{_≡_};
-ghost use Rattle.small_meaning.specs.Answer.{twelve, paperDate};
+ghost use Rattle.small_meaning.specs.Answer.{dateNumbers, dateInNumbers};
 ghost use Rattle.small_meaning.specs.Layout.{dateBytes};
 ghost use Rattle.small_meaning.specs.Small.{dateOf};
 
 fn bytes_at(tag: &[u8]) -> DateBytes
-    ensures { λ r. ⌜ twelve r ≡ dateBytes (now (tag .entry)) ⌝ }
+    ensures { λ r. ⌜ dateNumbers r ≡ dateBytes (now (tag .entry)) ⌝ }
 {
     DateBytes {
         byte8: fields::u8_at(tag, InTag(8)),
@@ -32,7 +32,7 @@ fn bytes_at(tag: &[u8]) -> DateBytes
 
 // For a date tag at `entry`, of `size` bytes, what the Rust takes for its date: bytes 8 to 19 of the profile, as if the tag stood at its front.
 pub fn read_date_time_tag(profile: &[u8], entry: Entry, size: u32) -> DateAnswer
-    ensures { λ r. ⌜ paperDate r ≡ dateOf (now (profile .entry)) (entry .0) size ⌝ }
+    ensures { λ r. ⌜ dateInNumbers r ≡ dateOf (now (profile .entry)) (entry .0) size ⌝ }
 {
     let found = small_order::find(profile, entry, size, 20, size, Kind::DTIM);
     match found {

@@ -7,12 +7,12 @@ use fields::TAG_SIZE;
 use small_meaning::Found;
 use small_meaning::SigAnswer;
 ghost use mathlib.Core.Path.{_≡_};
-ghost use Rattle.small_meaning.specs.Answer.{paperSig};
+ghost use Rattle.small_meaning.specs.Answer.{sigInNumbers};
 ghost use Rattle.small_meaning.specs.Small.{sigOf};
 
 // The signature in the tag at `entry`, of `size` bytes. Too short comes before past the profile.
 pub fn read_tech_tag(profile: &[u8], entry: Entry, size: u32) -> SigAnswer
-    ensures { λ r. ⌜ paperSig r ≡ sigOf (now (profile .entry)) (entry .0) size ⌝ }
+    ensures { λ r. ⌜ sigInNumbers r ≡ sigOf (now (profile .entry)) (entry .0) size ⌝ }
 {
     let found = small_order::find(profile, entry, size, TAG_SIZE, size, Kind::SIG);
     match found {

@@ -10,12 +10,12 @@ use small_meaning::MeasAnswer;
 use small_meaning::Measurement;
 use small_meaning::XyzNumber;
 ghost use mathlib.Core.Path.{_≡_};
-ghost use Rattle.small_meaning.specs.Answer.{measured, paperMeas};
+ghost use Rattle.small_meaning.specs.Answer.{measurementNumbers, measInNumbers};
 ghost use Rattle.small_meaning.specs.Layout.{measurement};
 ghost use Rattle.small_meaning.specs.Small.{windowOf, measOf};
 
 fn measurement_at(bytes: &[u8]) -> Measurement
-    ensures { λ r. ⌜ measured r ≡ measurement (now (bytes .entry)) ⌝ }
+    ensures { λ r. ⌜ measurementNumbers r ≡ measurement (now (bytes .entry)) ⌝ }
 {
     let observer = fields::u32_at(bytes, InTag(8));
     let backing = XyzNumber {
@@ -37,7 +37,7 @@ fn measurement_at(bytes: &[u8]) -> Measurement
 
 // The 36 bytes of a measurement, wherever the tag ends.
 fn read_bytes(profile: &[u8], entry: Entry) -> MeasAnswer
-    ensures { λ r. ⌜ paperMeas r ≡ windowOf (now (profile .entry)) (entry .0) ⌝ }
+    ensures { λ r. ⌜ measInNumbers r ≡ windowOf (now (profile .entry)) (entry .0) ⌝ }
 {
     let place = fields::locate(profile, entry, InTag(36));
     let Place::In { from, to } = place else {
@@ -48,7 +48,7 @@ fn read_bytes(profile: &[u8], entry: Entry) -> MeasAnswer
 
 // The measurement whose tag stands at `entry`, of `size` bytes. As in the Rust a tag of 12 to 35 bytes is read past its size.
 pub fn read_meas_tag(profile: &[u8], entry: Entry, size: u32) -> MeasAnswer
-    ensures { λ r. ⌜ paperMeas r ≡ measOf (now (profile .entry)) (entry .0) size ⌝ }
+    ensures { λ r. ⌜ measInNumbers r ≡ measOf (now (profile .entry)) (entry .0) size ⌝ }
 {
     let found = small_order::find(profile, entry, size, TAG_SIZE, size, Kind::MEAS);
     match found {

@@ -8,12 +8,12 @@ use small_meaning::ViewAnswer;
 use small_meaning::ViewingConditions;
 use small_meaning::XyzNumber;
 ghost use mathlib.Core.Path.{_≡_};
-ghost use Rattle.small_meaning.specs.Answer.{viewed, paperView};
+ghost use Rattle.small_meaning.specs.Answer.{viewingNumbers, viewInNumbers};
 ghost use Rattle.small_meaning.specs.Layout.{conditions};
 ghost use Rattle.small_meaning.specs.Small.{viewOf};
 
 fn conditions_at(bytes: &[u8]) -> ViewingConditions
-    ensures { λ r. ⌜ viewed r ≡ conditions (now (bytes .entry)) ⌝ }
+    ensures { λ r. ⌜ viewingNumbers r ≡ conditions (now (bytes .entry)) ⌝ }
 {
     let illuminant = XyzNumber {
         x: fields::u32_at(bytes, InTag(8)),
@@ -35,7 +35,7 @@ fn conditions_at(bytes: &[u8]) -> ViewingConditions
 
 // The viewing conditions whose tag stands at `entry`. Its first 36 bytes are read; where `size` says that it ends is not looked at.
 pub fn read_viewing_conditions(profile: &[u8], entry: Entry, size: u32) -> ViewAnswer
-    ensures { λ r. ⌜ paperView r ≡ viewOf (now (profile .entry)) (entry .0) size ⌝ }
+    ensures { λ r. ⌜ viewInNumbers r ≡ viewOf (now (profile .entry)) (entry .0) size ⌝ }
 {
     let found = small_order::find(profile, entry, size, 36, 36, Kind::VIEW);
     match found {

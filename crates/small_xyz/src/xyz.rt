@@ -9,12 +9,12 @@ use small_meaning::XyzAnswer;
 use small_meaning::XyzNumber;
 ghost use mathlib.Core.Path.{_≡_};
 ghost use Rattle.fields.specs.Bytes.{wordsAt};
-ghost use Rattle.small_meaning.specs.Answer.{triple, paperXyz};
+ghost use Rattle.small_meaning.specs.Answer.{xyzNumbers, xyzInNumbers};
 ghost use Rattle.small_meaning.specs.Small.{tripleOf, xyzOf};
 
 // The three numbers from `at` on.
 fn xyz_at(tag: &[u8], at: u32) -> XyzNumber
-    ensures { λ r. ⌜ triple r ≡ wordsAt (now (tag .entry)) at 3 ⌝ }
+    ensures { λ r. ⌜ xyzNumbers r ≡ wordsAt (now (tag .entry)) at 3 ⌝ }
 {
     XyzNumber {
         x: fields::u32_at(tag, InTag(at as u64)),
@@ -25,7 +25,7 @@ fn xyz_at(tag: &[u8], at: u32) -> XyzNumber
 
 // A tag of this type, which may be too short for its numbers.
 fn read_triple(tag: &[u8]) -> XyzAnswer
-    ensures { λ r. ⌜ paperXyz r ≡ tripleOf (now (tag .entry)) ⌝ }
+    ensures { λ r. ⌜ xyzInNumbers r ≡ tripleOf (now (tag .entry)) ⌝ }
 {
     if tag.len() < 20 {
         return XyzAnswer::Refused(Refusal::TagTooShort);
@@ -35,7 +35,7 @@ fn read_triple(tag: &[u8]) -> XyzAnswer
 
 // The first XYZNumber of the tag at `entry`, of `size` bytes.
 pub fn read_xyz_tag(profile: &[u8], entry: Entry, size: u32) -> XyzAnswer
-    ensures { λ r. ⌜ paperXyz r ≡ xyzOf (now (profile .entry)) (entry .0) size ⌝ }
+    ensures { λ r. ⌜ xyzInNumbers r ≡ xyzOf (now (profile .entry)) (entry .0) size ⌝ }
 {
     let found = small_order::find(profile, entry, size, TAG_SIZE, size, Kind::XYZ);
     match found {

@@ -10,6 +10,7 @@ use lib.ListN.{length, take, drop}
 use types.Run.{OneOf}
 use denote.Enum.Declared.{tagOf as placeIn}
 use borrow.Author.Tests.{eq-eqb, ne-eqb, lt-ltb, le-ltb}
+use Rattle.fields.proofs.Never.{never}
 use Rattle.fields.specs.Bytes.{u32At}
 use Rattle.fields.specs.Place.{placeOf, countedSize}
 use Rattle.fields.specs.Tag.{signatureOf, kindOf}
@@ -22,10 +23,10 @@ use Rattle.fields.proofs.Choice.{each}
 use Rattle.fields.proofs.Kind as kinds
 use Rattle.fields.proofs.Located.{inside, past, part-is}
 use Rattle.fields.proofs.Signatures.{arm, unlike, others}
-use Rattle.text_meaning.specs.Answer.{Answer, text, desc, absent, refused, span, spanFrom, unicodeFrom, paper, leftBy}
+use Rattle.text_meaning.specs.Answer.{Answer, text, desc, absent, refused, span, spanFrom, unicodeFrom, inNumbers, slotsWith}
 use Rattle.text_meaning.specs.Cut.{byteOf, unitOf, keptOf}
 use Rattle.text_meaning.specs.Layout.{asciiEnd}
-use Rattle.text_meaning.specs.Text.{Said, textOf, unicodeOf, descOf, mlucOf, byType, tagOf, stringOf}
+use Rattle.text_meaning.specs.Text.{AnswerAndSlots, textOf, unicodeOf, descOf, mlucOf, byType, tagOf, stringOf}
 use Rattle.text_meaning.specs.declared.Description.{Description}
 use Rattle.text_meaning.specs.declared.TextAnswer.{TextAnswer}
 use Rattle.text_meaning.proofs.Shared.{leaving, same, as-text, as-mluc, as-desc}
@@ -71,30 +72,30 @@ pub ruleset desc-laws = (desc-short, desc-past, desc-value)
 
 -- ---- the type
 
-text-leaves : (t s ws : List ℕ) → leftBy (textOf t) ws s ≡ s
+text-leaves : (t s ws : List ℕ) → slotsWith (textOf t) ws s ≡ s
 unfolding textOf
 text-leaves t s ws = refl
 
-desc-leaves : (t s ws : List ℕ) → leftBy (descOf t) ws s ≡ s
+desc-leaves : (t s ws : List ℕ) → slotsWith (descOf t) ws s ≡ s
 unfolding descOf
 desc-leaves t s ws =
-    let P : Answer → Type 0 = λ a. leftBy a ws s ≡ s in
+    let P : Answer → Type 0 = λ a. slotsWith a ws s ≡ s in
     each P (ltb (length t) 12) _ _ (λ _. refl) (λ _. each P (ltb (length t) (asciiEnd t)) _ _ (λ _. refl) (λ _. refl))
 
 module _ (t s : List ℕ) (k : Kind) (h : k ≡ kindOf (u32At t 0)) (r : TextAnswer) where
   named : (a : Kind) → (Kind.Other ≡ a → ⊥) → k ≡ a → u32At t 0 ≡ signatureOf a
   named a o e = arm _ a o h e
 
-  pub kind-text : k ≡ Text → paper r ≡ textOf t → Said t (byType t (length s)) r s s
-  kind-text e g = leaving t s r _ _ (text-leaves t s) (as-text t (length s) (named Text (λ o. let z : _≡_ {A = ℕ} 0 1 = cc in omega arith) e)) g
+  pub kind-text : k ≡ Text → inNumbers r ≡ textOf t → AnswerAndSlots t (byType t (length s)) r s s
+  kind-text e g = leaving t s r _ _ (text-leaves t s) (as-text t (length s) (named Text (λ o. never cc) e)) g
 
-  pub kind-mluc : k ≡ Mluc → (s' : List ℕ) → Said t (mlucOf t (length s)) r s s' → Said t (byType t (length s)) r s s'
-  kind-mluc e s' g = same t s r _ _ s' (as-mluc t (length s) (named Mluc (λ o. let z : _≡_ {A = ℕ} 0 1 = cc in omega arith) e)) g
+  pub kind-mluc : k ≡ Mluc → (s' : List ℕ) → AnswerAndSlots t (mlucOf t (length s)) r s s' → AnswerAndSlots t (byType t (length s)) r s s'
+  kind-mluc e s' g = same t s r _ _ s' (as-mluc t (length s) (named Mluc (λ o. never cc) e)) g
 
-  pub kind-desc : k ≡ Desc → paper r ≡ descOf t → Said t (byType t (length s)) r s s
-  kind-desc e g = leaving t s r _ _ (desc-leaves t s) (as-desc t (length s) (named Desc (λ o. let z : _≡_ {A = ℕ} 0 1 = cc in omega arith) e)) g
+  pub kind-desc : k ≡ Desc → inNumbers r ≡ descOf t → AnswerAndSlots t (byType t (length s)) r s s
+  kind-desc e g = leaving t s r _ _ (desc-leaves t s) (as-desc t (length s) (named Desc (λ o. never cc) e)) g
 
-pub kind-other : (t s : List ℕ) (k : Kind) → k ≡ kindOf (u32At t 0) → OneOf (others (Text ∷ Mluc ∷ Desc ∷ [])) (placeIn kinds.the-type k) → Said t (byType t (length s)) TextAnswer.Absent s s
+pub kind-other : (t s : List ℕ) (k : Kind) → k ≡ kindOf (u32At t 0) → OneOf (others (Text ∷ Mluc ∷ Desc ∷ [])) (placeIn kinds.the-type k) → AnswerAndSlots t (byType t (length s)) TextAnswer.Absent s s
 unfolding byType
 kind-other t s k h o =
     let rest = others (Text ∷ Mluc ∷ Desc ∷ []) in
@@ -105,21 +106,21 @@ pub ruleset kind-laws = (kind-text, kind-mluc, kind-desc, kind-other)
 -- ---- the tag in its profile
 
 module _ (p s : List ℕ) (entry size end : ℕ) (n : end ≡ countedSize size) where
-  pub string-small : end < 4 → Said (tagOf p entry size) (stringOf p entry size (length s)) TextAnswer.Absent s s
+  pub string-small : end < 4 → AnswerAndSlots (tagOf p entry size) (stringOf p entry size (length s)) TextAnswer.Absent s s
   unfolding stringOf
   string-small l = leaving _ s _ _ absent (λ ws. refl) (rw (← n, lt-ltb _ _ l)) refl
 
   module _ (l : 4 ≤ end) (place : Place) (h : place ≡ placeOf (length p) entry end) where
-    pub string-past : place ≡ Past → Said (tagOf p entry size) (stringOf p entry size (length s)) (TextAnswer.Refused Refusal.PastProfile) s s
+    pub string-past : place ≡ Past → AnswerAndSlots (tagOf p entry size) (stringOf p entry size (length s)) (TextAnswer.Refused Refusal.PastProfile) s s
     unfolding stringOf
     string-past e = leaving _ s _ _ (refused 1) (λ ws. refl) (rw (← n, le-ltb _ _ l, lt-ltb _ _ (past _ _ _ h e))) refl
 
     module _ (from to : ℕ) (e : place ≡ In from to) where
-      pub string-short : end < 8 → Said (tagOf p entry size) (stringOf p entry size (length s)) TextAnswer.Absent s s
+      pub string-short : end < 8 → AnswerAndSlots (tagOf p entry size) (stringOf p entry size (length s)) TextAnswer.Absent s s
       unfolding stringOf
       string-short m = let i = inside _ _ _ h e in leaving _ s _ _ absent (λ ws. refl) (rw (← n, le-ltb _ _ l, le-ltb _ _ (i .fits), lt-ltb _ _ m)) refl
 
-      pub string-kind : (r : TextAnswer) (s' : List ℕ) → 8 ≤ end → Said (take (to - from) (drop from p)) (byType (take (to - from) (drop from p)) (length s)) r s s' → Said (tagOf p entry size) (stringOf p entry size (length s)) r s s'
+      pub string-kind : (r : TextAnswer) (s' : List ℕ) → 8 ≤ end → AnswerAndSlots (take (to - from) (drop from p)) (byType (take (to - from) (drop from p)) (length s)) r s s' → AnswerAndSlots (tagOf p entry size) (stringOf p entry size (length s)) r s s'
       unfolding stringOf
       string-kind r s' m g =
           let i = inside _ _ _ h e in

@@ -6,20 +6,20 @@ use fields::InTag;
 use fields::Kind;
 use fields::Place;
 use fields::Refusal;
-pub use text_mluc::TEXT_RECORD_WORDS;
 pub use text_meaning::Description;
 pub use text_meaning::Range;
 pub use text_meaning::TextAnswer;
+pub use text_mluc::TEXT_RECORD_WORDS;
 ghost use mathlib.Core.Path.{_≡_};
 ghost use Prim.Native.Nat.{_^_, _≤_, _<_};
 ghost use lib.ListN.{length};
-ghost use Rattle.text_meaning.specs.Answer.{paper, unicodeFrom};
-ghost use Rattle.text_meaning.specs.Text.{Said, textOf, unicodeOf, descOf, byType, tagOf, stringOf};
+ghost use Rattle.text_meaning.specs.Answer.{inNumbers, unicodeFrom};
+ghost use Rattle.text_meaning.specs.Text.{AnswerAndSlots, textOf, unicodeOf, descOf, byType, tagOf, stringOf};
 
 // `text`: the rest of the tag.
 fn read_text(tag: &[u8]) -> TextAnswer
     requires { ⌜ (8 ≤ length (now tag)) × (length (now tag) < 2 ^ 32) ⌝ }
-    ensures { λ r. ⌜ paper r ≡ textOf (now (tag .entry)) ⌝ }
+    ensures { λ r. ⌜ inNumbers r ≡ textOf (now (tag .entry)) ⌝ }
 {
     let n = (tag.len() - 8) as u32;
     let length = cut::kept_bytes(tag, InTag(8), n);
@@ -71,7 +71,7 @@ fn read_desc_unicode(tag: &[u8], at: InTag, ascii: Range) -> Description
 // `desc`: an ASCII string, and a Unicode string behind it, which may be missing.
 fn read_desc(tag: &[u8]) -> TextAnswer
     requires { ⌜ length (now tag) < 2 ^ 32 ⌝ }
-    ensures { λ r. ⌜ paper r ≡ descOf (now (tag .entry)) ⌝ }
+    ensures { λ r. ⌜ inNumbers r ≡ descOf (now (tag .entry)) ⌝ }
 {
     if tag.len() < 12 {
         return TextAnswer::Refused(Refusal::TagTooShort);
@@ -92,7 +92,7 @@ fn read_desc(tag: &[u8]) -> TextAnswer
 // By the type of the tag.
 fn read_kind(tag: &[u8], slots: &mut [u32]) -> TextAnswer
     requires { ⌜ (8 ≤ length (now tag)) × (length (now tag) < 2 ^ 32) ⌝ }
-    ensures { λ r. ⌜ Said (now (tag .entry)) (byType (now (tag .entry)) (length (now (slots .entry)))) r (now (slots .entry)) (now (slots .exit)) ⌝ }
+    ensures { λ r. ⌜ AnswerAndSlots (now (tag .entry)) (byType (now (tag .entry)) (length (now (slots .entry)))) r (now (slots .entry)) (now (slots .exit)) ⌝ }
 {
     match fields::kind_at(tag, InTag(0)) {
         Kind::Text => read_text(tag),
@@ -105,7 +105,7 @@ fn read_kind(tag: &[u8], slots: &mut [u32]) -> TextAnswer
 // The text whose tag stands at `entry`, of `size` bytes; a size of 0 counts as 12. The records of `mluc` go into `slots`,
 // TEXT_RECORD_WORDS words each.
 pub fn read_string_tag(profile: &[u8], entry: Entry, size: u32, slots: &mut [u32]) -> TextAnswer
-    ensures { λ r. ⌜ Said (tagOf (now (profile .entry)) (entry .0) size) (stringOf (now (profile .entry)) (entry .0) size (length (now (slots .entry)))) r (now (slots .entry)) (now (slots .exit)) ⌝ }
+    ensures { λ r. ⌜ AnswerAndSlots (tagOf (now (profile .entry)) (entry .0) size) (stringOf (now (profile .entry)) (entry .0) size (length (now (slots .entry)))) r (now (slots .entry)) (now (slots .exit)) ⌝ }
 {
     let end = fields::counted_size(size);
     if end < 4 {

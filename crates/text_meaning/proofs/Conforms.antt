@@ -19,12 +19,12 @@ use Rattle.fields.proofs.Written.{halvesAt, halves-length, half-at, half-drop, 
 use Rattle.fields.specs.Bytes.{u16At, u32At}
 use Rattle.fields.specs.Place.{countedSize}
 use Rattle.fields.specs.Tag.{signatureOf}
-use Rattle.text_meaning.specs.Answer.{Answer, text, desc, mluc, Span, span, Unicode, leftBy}
+use Rattle.text_meaning.specs.Answer.{Answer, text, desc, mluc, Span, span, Unicode, slotsWith}
 use Rattle.text_meaning.specs.Cut.{byteOf, unitOf}
 use Rattle.text_meaning.specs.Layout.{unicodeLanguage, unicodeCount, unicodeStart}
-use Rattle.text_meaning.specs.Mluc.{Localized as Placed, Ran, whole, even, recordsAsked, recordsIn, recordWords, wordsIn}
-use Rattle.text_meaning.specs.Standard.{TagInside, tagIn, NoZeroLast, BeginsText, unicodeTold, descriptionTold, CutShort, no-count, no-units, UnicodeTaken, none, some, short, BeginsDescription, AllFit, Asked, recordsTold, StringTaken, StringsTaken, BeginsLocalized, ReadLocalized}
-use Rattle.text_meaning.specs.Text.{byType, stringOf, leftOf}
+use Rattle.text_meaning.specs.Mluc.{Localized as Placed, RecordsRead, whole, even, recordsAsked, recordsIn, recordWords, wordsIn}
+use Rattle.text_meaning.specs.Standard.{TagInside, tagIn, NoZeroLast, BeginsText, unicodeTold, descriptionTold, CutShort, no-count, no-units, UnicodeTaken, none, some, short, BeginsDescription, AllFit, Asked, localizedTold, StringTaken, StringsTaken, BeginsLocalized, ReadLocalized}
+use Rattle.text_meaning.specs.Text.{byType, stringOf, slotsAfter}
 use Rattle.text_meaning.proofs.Cutting.{string-cut, cut-string}
 use Rattle.text_meaning.proofs.Found.{Value, in-profile, found}
 use Rattle.text_meaning.proofs.Taken.{TextTaken, AsciiTaken, UnicodeWhole, UnicodeShort, DescriptionTaken, Row, RecordTaken, RecordsTaken, text-accepted, desc-accepted, mluc-accepted, mluc-room, records-read, Taken, accepted}
@@ -248,8 +248,8 @@ desc-begun t b s u h =
 abbrev placed : Localized → Placed
 placed l = record { language = l .language; country = l .country; start = l .offset; bytes = 2 * length (l .units) }
 
-words-told : (ls : List Localized) → wordsIn (map placed ls) ≡ recordsTold ls
-unfolding wordsIn recordsTold
+words-told : (ls : List Localized) → wordsIn (map placed ls) ≡ localizedTold ls
+unfolding wordsIn localizedTold
 words-told [] = refl
 words-told (l ∷ ls) = ap (λ (ws : List ℕ). l .language ∷ l .country ∷ l .offset ∷ 2 * length (l .units) ∷ ws) (words-told ls)
 
@@ -324,8 +324,8 @@ module _ (t : List ℕ) where
   from-length k [] = refl
   from-length k (r ∷ rs) = ap suc (from-length (k + 1) rs)
 
-  from-words : (k : ℕ) (rs : List Placed) → Row (RecordTaken t) k rs → wordsIn rs ≡ recordsTold (localizedFrom k rs)
-  unfolding localizedFrom Row wordsIn recordsTold even
+  from-words : (k : ℕ) (rs : List Placed) → Row (RecordTaken t) k rs → wordsIn rs ≡ localizedTold (localizedFrom k rs)
+  unfolding localizedFrom Row wordsIn localizedTold even
   from-words k [] h = refl
   from-words k (r ∷ rs) (h, hs) =
       let units : r .bytes ≡ 2 * length (localized k .units) = ap (λ (x : Placed). x .bytes) (h .is) ∙ omega (arith, halves-length t (u32At t (at k + 8)) (u32At t (at k + 4) / 2)) in
@@ -496,10 +496,10 @@ module _ (p : List ℕ) (entry size : ℕ) (inside : TagInside p entry size) whe
       let long : 8 ≤ length tag-here = omega (arith, ap length (h .begins .is)) in
       in-profile p entry size words inside long ∙ mluc-accepted tag-here (map placed ls) words (mluc-laid tag-here ls h) (omega (arith, n)) ∙ ap mluc n
 
-  pub mluc-taken-left : (slots : List ℕ) (ls : List Localized) → BeginsLocalized tag-here ls → length ls * recordWords ≤ length slots → leftOf p entry size slots ≡ recordsTold ls ++ drop (length (recordsTold ls)) slots
+  pub mluc-taken-left : (slots : List ℕ) (ls : List Localized) → BeginsLocalized tag-here ls → length ls * recordWords ≤ length slots → slotsAfter p entry size slots ≡ localizedTold ls ++ drop (length (localizedTold ls)) slots
   mluc-taken-left slots ls h room =
-      let words : wordsIn (recordsIn tag-here .records) ≡ recordsTold ls = ap (λ (r : Ran). wordsIn (r .records)) (mluc-found ls h) ∙ words-told ls in
-      ap (λ (a : Answer). leftBy a (wordsIn (recordsIn tag-here .records)) slots) (mluc-taken (length slots) ls h room) ∙ ap (λ (ws : List ℕ). ws ++ drop (length ws) slots) words
+      let words : wordsIn (recordsIn tag-here .records) ≡ localizedTold ls = ap (λ (r : RecordsRead). wordsIn (r .records)) (mluc-found ls h) ∙ words-told ls in
+      ap (λ (a : Answer). slotsWith a (wordsIn (recordsIn tag-here .records)) slots) (mluc-taken (length slots) ls h room) ∙ ap (λ (ws : List ℕ). ws ++ drop (length ws) slots) words
 
   -- what the standards write is answered with what was written
   pub text-read : (words reserved : ℕ) (cs : List ℕ) → Ascii cs → tag-here ≡ textType reserved (terminated cs) → stringOf p entry size words ≡ text (span 8 (length cs))
@@ -511,8 +511,8 @@ module _ (p : List ℕ) (entry size : ℕ) (inside : TagInside p entry size) whe
   pub mluc-read : (words : ℕ) (tag : LocalizedTag tag-here) → Asked tag → length (tag .records) * recordWords ≤ words → stringOf p entry size words ≡ mluc (length (tag .records))
   mluc-read words tag h room = mluc-taken words (tag .records) (mluc-begins tag-here tag h) room
 
-  pub mluc-left : (slots : List ℕ) (tag : LocalizedTag tag-here) → Asked tag → length (tag .records) * recordWords ≤ length slots → leftOf p entry size slots ≡ recordsTold (tag .records) ++ drop (length (recordsTold (tag .records))) slots
-  mluc-left slots tag h room = mluc-taken-left slots (tag .records) (mluc-begins tag-here tag h) room
+  pub mluc-slots : (slots : List ℕ) (tag : LocalizedTag tag-here) → Asked tag → length (tag .records) * recordWords ≤ length slots → slotsAfter p entry size slots ≡ localizedTold (tag .records) ++ drop (length (localizedTold (tag .records))) slots
+  mluc-slots slots tag h room = mluc-taken-left slots (tag .records) (mluc-begins tag-here tag h) room
 
 -- ---- and back
 
@@ -540,16 +540,16 @@ module _ (p : List ℕ) (b : Bytes p) (entry size : ℕ) where
   pub desc-written : (words : ℕ) (s : Span) (u : Unicode) → stringOf p entry size words ≡ desc s u → TagInside p entry size × BeginsDescription tag-read s u
   desc-written words s u e = let k = answered words (desc s u) tt e in (k .inside, desc-begun tag-read here s u (k .laid))
 
-  pub mluc-written : (slots : List ℕ) (n : ℕ) → stringOf p entry size (length slots) ≡ mluc n → ReadLocalized p entry size n slots (leftOf p entry size slots)
+  pub mluc-written : (slots : List ℕ) (n : ℕ) → stringOf p entry size (length slots) ≡ mluc n → ReadLocalized p entry size n slots (slotsAfter p entry size slots)
   mluc-written slots n e =
       let k = answered (length slots) (mluc n) tt e in
       let rs : List Placed = recordsIn tag-read .records in
-      let words : wordsIn rs ≡ recordsTold (localizedFrom tag-read 0 rs) = from-words tag-read 0 rs (k .laid .taken .row) in
+      let words : wordsIn rs ≡ localizedTold (localizedFrom tag-read 0 rs) = from-words tag-read 0 rs (k .laid .taken .row) in
       record {
         inside = k .inside;
         records = localizedFrom tag-read 0 rs;
         begins = mluc-begun tag-read here rs (k .laid .taken);
         count-is = k .laid .count-is ∙ sym (from-length tag-read 0 rs);
         room = omega (arith, from-length tag-read 0 rs, mluc-room tag-read rs (length slots) n (k .laid .taken) (sym (k .as-tag) ∙ e));
-        left-is = ap (λ (a : Answer). leftBy a (wordsIn rs) slots) e ∙ ap (λ (ws : List ℕ). ws ++ drop (length ws) slots) words;
+        slots-are = ap (λ (a : Answer). slotsWith a (wordsIn rs) slots) e ∙ ap (λ (ws : List ℕ). ws ++ drop (length ws) slots) words;
       }

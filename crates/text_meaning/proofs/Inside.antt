@@ -12,9 +12,9 @@ use lib.Dec.{ltb, eqb}
 use lib.ListN.{length, take, drop}
 use borrow.Author.Tests.{ltb-false}
 use Rattle.fields.specs.Place.{countedSize}
-use Rattle.text_meaning.specs.Answer.{Answer, text, desc, mluc, absent, refused, Span, span, nowhere, Unicode, leftBy}
+use Rattle.text_meaning.specs.Answer.{Answer, text, desc, mluc, absent, refused, Span, span, nowhere, Unicode, slotsWith}
 use Rattle.text_meaning.specs.Layout.{asciiEnd, unicodeCount, unicodeStart, headerEnd, stringEnd}
-use Rattle.text_meaning.specs.Mluc.{Localized, header, string, is, no, Ran, first, localizedAt, recordAt, follow, recordsFrom, recordsAsked, recordsIn, recordWords, wordsOf, wordsIn}
+use Rattle.text_meaning.specs.Mluc.{Localized, header, string, is, no, RecordsRead, first, localizedAt, recordAt, follow, recordsFrom, recordsAsked, recordsIn, recordWords, wordsOf, wordsIn}
 use Rattle.text_meaning.specs.Text.{tagOf, stringOf}
 use Rattle.text_meaning.proofs.Found.{Value}
 use Rattle.text_meaning.proofs.Taken.{Row, UnicodeWhole, UnicodeShort, RecordTaken, Taken, read-row, accepted}
@@ -47,7 +47,7 @@ unfolding recordsFrom recordAt wordsIn
 record-at t rest zero at k = λ l. absurd (omega arith)
 record-at t rest (suc n) at k = by (ltb (length t) (headerEnd at)) refl (ltb (length t) (stringEnd t at)) refl k (record-at t rest n (at + 1))
   where
-    seen : Bool → Bool → Ran
+    seen : Bool → Bool → RecordsRead
     seen b c = follow (cond b (no header) (cond c (no string) (is (localizedAt t at)))) (λ r. first r (recordsFrom t (at + 1) n))
 
     by : (b : Bool) → ltb (length t) (headerEnd at) ≡ b → (c : Bool) → ltb (length t) (stringEnd t at) ≡ c → (k : ℕ) → ((j : ℕ) → j < length (recordsFrom t (at + 1) n .records) → ReadAt t (at + 1 + j) (take recordWords (drop (j * recordWords) (wordsIn (recordsFrom t (at + 1) n .records) ++ rest)))) → k < length (seen b c .records) → ReadAt t (at + k) (take recordWords (drop (k * recordWords) (wordsIn (seen b c .records) ++ rest)))
@@ -76,7 +76,7 @@ module _ (t : List ℕ) where
   abbrev pub Inside : Answer → Type 0
   Inside (text s) = endOf s ≤ length t
   Inside (desc s u) = (endOf s ≤ length t) × (endOf (u .string) ≤ length t)
-  Inside (mluc n) = (slots : List ℕ) (k : ℕ) → k < n → ReadAt t k (take recordWords (drop (k * recordWords) (leftBy (mluc n) (wordsIn (recordsIn t .records)) slots)))
+  Inside (mluc n) = (slots : List ℕ) (k : ℕ) → k < n → ReadAt t k (take recordWords (drop (k * recordWords) (slotsWith (mluc n) (wordsIn (recordsIn t .records)) slots)))
   Inside absent = Unit
   Inside (refused n) = Unit
 

@@ -8,6 +8,7 @@ use mathlib.Core.List.{List}
 use lib.Dec.{ltb, eqb}
 use lib.ListN.{length}
 use borrow.Author.Tests.{ltb-true, ltb-false, le-ltb, eqb-true}
+use Rattle.fields.proofs.Never.{never}
 use Rattle.fields.specs.Bytes.{u32At}
 use Rattle.fields.specs.Place.{countedSize}
 use Rattle.fields.specs.Tag.{signatureOf}
@@ -15,7 +16,7 @@ use Rattle.fields.specs.declared.Kind.the-variants.{Text, Desc, Mluc}
 use Rattle.fields.proofs.Choice.{each}
 use Rattle.text_meaning.specs.Answer.{Answer, mluc, absent, refused}
 use Rattle.text_meaning.specs.Layout.{asciiEnd}
-use Rattle.text_meaning.specs.Mluc.{header, string, End, whole, stopped, recordsAsked, recordsIn, recordWords}
+use Rattle.text_meaning.specs.Mluc.{header, string, RecordsEnd, whole, stopped, recordsAsked, recordsIn, recordWords}
 use Rattle.text_meaning.specs.Text.{textOf, descOf, slottedOf, endedBy, mlucOf, byType, tagOf, stringOf}
 use Rattle.text_meaning.proofs.Shared.{as-mluc}
 
@@ -34,17 +35,17 @@ module _ (p : List ℕ) (entry size words : ℕ) where
   Behind a = a ≡ refused 14 → Short
 
   no-absence : Behind absent
-  no-absence h = let z : _≡_ {A = ℕ} 0 1 = cc in absurd (omega arith)
+  no-absence h = never cc
 
   no-other : (n : ℕ) → (n ≡ 14 → ⊥) → Behind (refused n)
   no-other n f h = absurd (f cc)
 
-  by-end : entry + countedSize size ≤ length p → 8 ≤ countedSize size → u32At t 0 ≡ signatureOf Mluc → (x : End) → recordsIn t .end ≡ x → Behind (endedBy x (slottedOf (recordsAsked t) words))
+  by-end : entry + countedSize size ≤ length p → 8 ≤ countedSize size → u32At t 0 ≡ signatureOf Mluc → (x : RecordsEnd) → recordsIn t .end ≡ x → Behind (endedBy x (slottedOf (recordsAsked t) words))
   unfolding slottedOf
   by-end fits long i whole e =
       each Behind (ltb (words / recordWords) (recordsAsked t)) _ _
       (λ l h. record { tag-in-profile = fits; long = long; type-is = i; all-read = e; few = ltb-true _ _ l })
-      (λ _ h. let z : _≡_ {A = ℕ} 0 1 = cc in absurd (omega arith))
+      (λ _ h. never cc)
   by-end fits long i (stopped header) e = no-other _ (λ z. omega arith)
   by-end fits long i (stopped string) e = no-absence
 
@@ -54,12 +55,12 @@ module _ (p : List ℕ) (entry size words : ℕ) where
       each Behind (ltb (countedSize size) 4) _ _ (λ _. no-absence)
       (λ _. each Behind (ltb (length p) (entry + countedSize size)) _ _ (λ _. no-other _ (λ z. omega arith))
       (λ fits. each Behind (ltb (countedSize size) 8) _ _ (λ _. no-absence)
-      (λ long. each Behind (eqb (u32At t 0) (signatureOf Text)) _ _ (λ _ h. let z : _≡_ {A = ℕ} 0 1 = cc in absurd (omega arith))
+      (λ long. each Behind (eqb (u32At t 0) (signatureOf Text)) _ _ (λ _ h. never cc)
       (λ _. each Behind (eqb (u32At t 0) (signatureOf Mluc)) _ _
       (λ i. by-end (ltb-false _ _ fits) (ltb-false _ _ long) (eqb-true _ _ i) (recordsIn t .end) refl)
       (λ _. each Behind (eqb (u32At t 0) (signatureOf Desc)) _ _
       (λ _. each Behind (ltb (length t) 12) _ _ (λ _. no-other _ (λ z. omega arith))
-      (λ _. each Behind (ltb (length t) (asciiEnd t)) _ _ (λ _. no-other _ (λ z. omega arith)) (λ _ h. let z : _≡_ {A = ℕ} 0 1 = cc in absurd (omega arith))))
+      (λ _. each Behind (ltb (length t) (asciiEnd t)) _ _ (λ _. no-other _ (λ z. omega arith)) (λ _ h. never cc)))
       (λ _. no-absence))))))
 
   -- with slots for all records everything stays, and they are answered

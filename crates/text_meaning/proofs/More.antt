@@ -16,7 +16,7 @@ use Rattle.fields.specs.declared.Kind.the-variants.{Text, Mluc}
 use Rattle.fields.proofs.Append.{longer, part-append}
 use Rattle.fields.proofs.Grow.{Grows, choose, passes}
 use Rattle.text_meaning.specs.Answer.{Answer, refused}
-use Rattle.text_meaning.specs.Mluc.{End, whole, stopped, recordsAsked, recordsIn, recordWords, wordsIn}
+use Rattle.text_meaning.specs.Mluc.{RecordsEnd, whole, stopped, recordsAsked, recordsIn, recordWords, wordsIn}
 use Rattle.text_meaning.specs.Text.{slottedOf, endedBy, mlucOf, byType, tagOf, stringOf}
 use Rattle.text_meaning.proofs.Found.{Value, found}
 
@@ -47,7 +47,7 @@ module _ (few many : ℕ) (h : few ≤ many) where
   unfolding mlucOf
   mluc-more t = by (recordsIn t .end)
     where
-      by : (x : End) → Grows (Is 14) (endedBy x (slottedOf (recordsAsked t) few)) (endedBy x (slottedOf (recordsAsked t) many))
+      by : (x : RecordsEnd) → Grows (Is 14) (endedBy x (slottedOf (recordsAsked t) few)) (endedBy x (slottedOf (recordsAsked t) many))
       by whole = slotted-more (recordsAsked t)
       by (stopped f) = inr refl
 

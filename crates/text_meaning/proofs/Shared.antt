@@ -7,12 +7,13 @@ use mathlib.Core.Path.{_≡_, refl, sym, ap, _∙_}
 use mathlib.Core.List.{List, [], _∷_}
 use lib.ListN.{length}
 use borrow.Author.Tests.{eq-eqb, ne-eqb}
+use Rattle.fields.proofs.Never.{never}
 use Rattle.fields.specs.Bytes.{u32At}
 use Rattle.fields.specs.Tag.{signatureOf}
 use Rattle.fields.specs.declared.Kind.the-variants.{Text, Desc, Mluc}
-use Rattle.text_meaning.specs.Answer.{Answer, paper, leftBy}
-use Rattle.text_meaning.specs.Mluc.{Localized, Seen, is, no, whole, first, recordAt, follow, recordsFrom, recordWords, wordsIn}
-use Rattle.text_meaning.specs.Text.{Said, textOf, descOf, mlucOf, byType}
+use Rattle.text_meaning.specs.Answer.{Answer, inNumbers, slotsWith}
+use Rattle.text_meaning.specs.Mluc.{Localized, FoundRecord, is, no, whole, first, recordAt, follow, recordsFrom, recordWords, wordsIn}
+use Rattle.text_meaning.specs.Text.{AnswerAndSlots, textOf, descOf, mlucOf, byType}
 use Rattle.text_meaning.specs.declared.TextAnswer.{TextAnswer}
 
 -- ---- the words of records
@@ -28,9 +29,9 @@ unfolding recordsFrom
 whole-count t k zero = λ h. refl
 whole-count t k (suc n) = by (recordAt t k) (whole-count t (k + 1) n)
   where
-    by : (x : Seen) → (recordsFrom t (k + 1) n .end ≡ whole → length (recordsFrom t (k + 1) n .records) ≡ n) → follow x (λ r. first r (recordsFrom t (k + 1) n)) .end ≡ whole → length (follow x (λ r. first r (recordsFrom t (k + 1) n)) .records) ≡ suc n
+    by : (x : FoundRecord) → (recordsFrom t (k + 1) n .end ≡ whole → length (recordsFrom t (k + 1) n .records) ≡ n) → follow x (λ r. first r (recordsFrom t (k + 1) n)) .end ≡ whole → length (follow x (λ r. first r (recordsFrom t (k + 1) n)) .records) ≡ suc n
     by (is r) ih h = ap suc (ih h)
-    by (no f) ih h = let z : _≡_ {A = ℕ} 0 1 = cc in absurd (omega arith)
+    by (no f) ih h = never cc
 
 -- ---- the type
 
@@ -69,9 +70,9 @@ module _ (t : List ℕ) (words : ℕ) where
 
 module _ (t s : List ℕ) (r : TextAnswer) where
   -- an answer without records leaves the slots as they were
-  pub leaving : (a b : Answer) → ((ws : List ℕ) → leftBy b ws s ≡ s) → a ≡ b → paper r ≡ b → Said t a r s s
-  leaving a b q e h = record { answer-is = h ∙ sym e; left-is = rw e (sym (q _)) }
+  pub leaving : (a b : Answer) → ((ws : List ℕ) → slotsWith b ws s ≡ s) → a ≡ b → inNumbers r ≡ b → AnswerAndSlots t a r s s
+  leaving a b q e h = record { answer-is = h ∙ sym e; slots-are = rw e (sym (q _)) }
 
   -- a meaning that comes to another
-  pub same : (a b : Answer) (u : List ℕ) → a ≡ b → Said t b r s u → Said t a r s u
+  pub same : (a b : Answer) (u : List ℕ) → a ≡ b → AnswerAndSlots t b r s u → AnswerAndSlots t a r s u
   same a b u e h = rw e h

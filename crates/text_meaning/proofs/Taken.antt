@@ -10,6 +10,7 @@ use mathlib.Core.Logic.{_⊎_, inl, inr}
 use lib.Dec.{ltb, eqb}
 use lib.ListN.{length}
 use borrow.Author.Tests.{lt-ltb, le-ltb, ltb-true, ltb-false, eqb-true}
+use Rattle.fields.proofs.Never.{never}
 use Rattle.fields.specs.Bytes.{u32At}
 use Rattle.fields.specs.House.{tagSize}
 use Rattle.fields.specs.Place.{countedSize}
@@ -19,7 +20,7 @@ use Rattle.fields.proofs.Choice.{each}
 use Rattle.text_meaning.specs.Answer.{Answer, text, desc, mluc, absent, refused, Span, span, nowhere, Unicode}
 use Rattle.text_meaning.specs.Cut.{byteOf, unitOf, keptOf, Cut}
 use Rattle.text_meaning.specs.Layout.{textStart, asciiStart, asciiCount, asciiEnd, unicodeLanguage, unicodeCount, unicodeStart, unicodeEnd, headerEnd, stringEnd}
-use Rattle.text_meaning.specs.Mluc.{Localized, is, no, header, string, End, whole, stopped, first, localizedAt, recordAt, follow, recordsFrom, recordsAsked, recordsIn, recordWords}
+use Rattle.text_meaning.specs.Mluc.{Localized, is, no, header, string, RecordsEnd, whole, stopped, first, localizedAt, recordAt, follow, recordsFrom, recordsAsked, recordsIn, recordWords}
 use Rattle.text_meaning.specs.Text.{textOf, unicodeOf, descOf, slottedOf, endedBy, mlucOf, byType, tagOf, stringOf}
 use Rattle.text_meaning.proofs.Cutting.{kept-cut, cut-kept}
 use Rattle.text_meaning.proofs.Found.{Value, found}
@@ -123,8 +124,7 @@ mluc-room t rs words n h e = by (ltb (words / recordWords) (length rs)) refl
     by : (b : Bool) → ltb (words / recordWords) (length rs) ≡ b → length rs ≤ words / recordWords
     by true f =
         let few : byType t words ≡ refused 14 = as-mluc t words (h .signature) ∙ rw (records-read t rs h, h .count, f) in
-        let z : _≡_ {A = ℕ} 0 1 = cc in
-        absurd (omega arith)
+        never cc
     by false f = ltb-false (words / recordWords) (length rs) f
 
 -- ---- what is accepted is taken
@@ -168,7 +168,7 @@ module _ (t : List ℕ) where
   unfolding mlucOf slottedOf recordsIn
   mluc-taken words i = by (recordsIn t .end) refl
     where
-      by : (x : End) → recordsIn t .end ≡ x → Taken (endedBy x (slottedOf (recordsAsked t) words))
+      by : (x : RecordsEnd) → recordsIn t .end ≡ x → Taken (endedBy x (slottedOf (recordsAsked t) words))
       by whole e =
           let n : length (recordsIn t .records) ≡ recordsAsked t = whole-count t 0 (recordsAsked t) e in
           each Taken (ltb (words / recordWords) (recordsAsked t)) _ _ (λ _. tt)

@@ -5,8 +5,8 @@ use mathlib.Core.List.{List}
 use Prim.Native.Nat.{ℕ}
 use Rattle.fields.proofs.Numbers.{nameOf, named}
 use Rattle.fields.proofs.Once.{once}
-use Rattle.text_meaning.specs.Answer.{Answer, text, desc, mluc, absent, refused, Span, paper}
-use Rattle.text_meaning.specs.Text.{Said}
+use Rattle.text_meaning.specs.Answer.{Answer, text, desc, mluc, absent, refused, Span, inNumbers}
+use Rattle.text_meaning.specs.Text.{AnswerAndSlots}
 use Rattle.text_meaning.specs.declared.Range.{Range}
 use Rattle.text_meaning.specs.declared.TextAnswer.{TextAnswer}
 
@@ -21,7 +21,7 @@ resultTo (mluc n) = TextAnswer.Mluc n
 resultTo absent = TextAnswer.Absent
 resultTo (refused n) = TextAnswer.Refused (nameOf n)
 
-back : (r : TextAnswer) → resultTo (paper r) ≡ r
+back : (r : TextAnswer) → resultTo (inNumbers r) ≡ r
 back (TextAnswer.Text r) = refl
 back (TextAnswer.Desc d) = refl
 back (TextAnswer.Mluc n) = refl
@@ -29,9 +29,9 @@ back TextAnswer.Absent = refl
 back (TextAnswer.Refused why) = ap TextAnswer.Refused (named why)
 
 -- two results that stand for the same answer are one
-pub unique : (a : Answer) (r s : TextAnswer) → paper r ≡ a → paper s ≡ a → r ≡ s
-unique = once paper resultTo back
+pub unique : (a : Answer) (r s : TextAnswer) → inNumbers r ≡ a → inNumbers s ≡ a → r ≡ s
+unique = once inNumbers resultTo back
 
 -- two calls of which the same is said have the same result and leave the same slots
-pub said-once : {t : List ℕ} {a : Answer} {r q : TextAnswer} {before after other : List ℕ} → Said t a r before after → Said t a q before other → (r ≡ q) × (after ≡ other)
-said-once {a = a} {r = r} {q = q} x y = (unique a r q (x .answer-is) (y .answer-is), x .left-is ∙ sym (y .left-is))
+pub said-once : {t : List ℕ} {a : Answer} {r q : TextAnswer} {before after other : List ℕ} → AnswerAndSlots t a r before after → AnswerAndSlots t a q before other → (r ≡ q) × (after ≡ other)
+said-once {a = a} {r = r} {q = q} x y = (unique a r q (x .answer-is) (y .answer-is), x .slots-are ∙ sym (y .slots-are))

@@ -2,7 +2,7 @@
 use Prim.Native.Nat.{ℕ}
 use mathlib.Core.List.{List, _++_}
 use lib.ListN.{length, drop}
-use Rattle.fields.specs.Refusals.{numberOf}
+use Rattle.fields.specs.Refusals.{refusalNumber}
 use Rattle.text_meaning.specs.declared.Description.{Description}
 use Rattle.text_meaning.specs.declared.Range.{Range}
 use Rattle.text_meaning.specs.declared.TextAnswer.{TextAnswer}
@@ -39,17 +39,17 @@ spanFrom r = span (r .start .0) (r .length)
 abbrev pub unicodeFrom : Description → Unicode
 unicodeFrom d = record { language = d .language; string = spanFrom (d .unicode) }
 
-abbrev pub paper : TextAnswer → Answer
-paper (TextAnswer.Text r) = text (spanFrom r)
-paper (TextAnswer.Desc d) = desc (spanFrom (d .ascii)) (unicodeFrom d)
-paper (TextAnswer.Mluc n) = mluc n
-paper TextAnswer.Absent = absent
-paper (TextAnswer.Refused why) = refused (numberOf why)
+abbrev pub inNumbers : TextAnswer → Answer
+inNumbers (TextAnswer.Text r) = text (spanFrom r)
+inNumbers (TextAnswer.Desc d) = desc (spanFrom (d .ascii)) (unicodeFrom d)
+inNumbers (TextAnswer.Mluc n) = mluc n
+inNumbers TextAnswer.Absent = absent
+inNumbers (TextAnswer.Refused why) = refused (refusalNumber why)
 
 -- what is left in lent slots: the words of the records in front, and everything else as it was; only `mluc` has records
-abbrev pub leftBy : Answer → List ℕ → List ℕ → List ℕ
-leftBy (mluc n) words slots = words ++ drop (length words) slots
-leftBy (text s) words slots = slots
-leftBy (desc s u) words slots = slots
-leftBy absent words slots = slots
-leftBy (refused n) words slots = slots
+abbrev pub slotsWith : Answer → List ℕ → List ℕ → List ℕ
+slotsWith (mluc n) words slots = words ++ drop (length words) slots
+slotsWith (text s) words slots = slots
+slotsWith (desc s u) words slots = slots
+slotsWith absent words slots = slots
+slotsWith (refused n) words slots = slots

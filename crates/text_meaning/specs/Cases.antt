@@ -5,7 +5,7 @@ use mathlib.Core.List.{List, [], _∷_, _++_}
 use lib.ListN.{length, replicate}
 use Rattle.text_meaning.specs.Answer.{Answer, text, desc, mluc, absent, refused, span}
 use Rattle.text_meaning.specs.Mluc.{recordWords}
-use Rattle.text_meaning.specs.Text.{stringOf, leftOf}
+use Rattle.text_meaning.specs.Text.{stringOf, slotsAfter}
 
 -- profile and size, the lent words, and the answer and the words as they are left
 pub data Case : Type 0 where
@@ -14,7 +14,7 @@ pub data Case : Type 0 where
 unfoldable pub Holds : Case → Type 0
 Holds (gives profile size slots a left) =
     (stringOf profile 0 size (length slots) ≡ a)
-    × (leftOf profile 0 size slots ≡ left)
+    × (slotsAfter profile 0 size slots ≡ left)
 
 unfoldable pub All : List Case → Type 0
 All [] = Unit

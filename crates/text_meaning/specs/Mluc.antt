@@ -19,27 +19,27 @@ pub data Fault : Type 0 where
   string : Fault
 
 -- what stands at a record's place
-pub data Seen : Type 0 where
-  is : Localized → Seen
-  no : Fault → Seen
+pub data FoundRecord : Type 0 where
+  is : Localized → FoundRecord
+  no : Fault → FoundRecord
 
 -- all records are read, or the reading stops
-pub data End : Type 0 where
-  whole : End
-  stopped : Fault → End
+pub data RecordsEnd : Type 0 where
+  whole : RecordsEnd
+  stopped : Fault → RecordsEnd
 
 -- the records as far as the reading gets, and its end
-pub record Ran : Type 0 where
+pub record RecordsRead : Type 0 where
   pub records : List Localized
-  pub end : End
+  pub end : RecordsEnd
 
-abbrev pub done : Ran
+abbrev pub done : RecordsRead
 done = record { records = []; end = whole }
 
-abbrev pub stops : Fault → Ran
+abbrev pub stops : Fault → RecordsRead
 stops f = record { records = []; end = stopped f }
 
-abbrev pub first : Localized → Ran → Ran
+abbrev pub first : Localized → RecordsRead → RecordsRead
 first r rest = record { records = r ∷ rest .records; end = rest .end }
 
 -- an odd last byte is no part of a string of two-byte units
@@ -51,19 +51,19 @@ abbrev pub localizedAt : List ℕ → ℕ → Localized
 localizedAt t k = record { language = languageAt t k; country = countryAt t k; start = stringStart t k; bytes = even (stringLength t k) }
 
 -- what stands at its place: the header first, then its string
-unfoldable pub recordAt : List ℕ → ℕ → Seen
+unfoldable pub recordAt : List ℕ → ℕ → FoundRecord
 recordAt t k =
     cond (ltb (length t) (headerEnd k)) (no header) (
     cond (ltb (length t) (stringEnd t k)) (no string) (
     is (localizedAt t k)))
 
 -- what is seen at a place, and what follows a record there
-abbrev pub follow : Seen → (Localized → Ran) → Ran
+abbrev pub follow : FoundRecord → (Localized → RecordsRead) → RecordsRead
 follow (is r) next = next r
 follow (no f) next = stops f
 
 -- n records from record k on, header and string in turn
-unfoldable pub recordsFrom : List ℕ → ℕ → ℕ → Ran
+unfoldable pub recordsFrom : List ℕ → ℕ → ℕ → RecordsRead
 recordsFrom t k zero = done
 recordsFrom t k (suc n) = follow (recordAt t k) (λ r. first r (recordsFrom t (k + 1) n))
 
@@ -72,7 +72,7 @@ unfoldable pub recordsAsked : List ℕ → ℕ
 recordsAsked t = cond (eqb (recordCount t) 0) 1 (recordCount t)
 
 -- the records of a tag
-unfoldable pub recordsIn : List ℕ → Ran
+unfoldable pub recordsIn : List ℕ → RecordsRead
 recordsIn t = recordsFrom t 0 (recordsAsked t)
 
 -- words of a record

@@ -95,9 +95,9 @@ pub record Asked {t : List ℕ} (tag : LocalizedTag t) : Type 0 where
   pub fit : AllFit (tag .records)
 
 -- the words of the records: language, country, where the string starts, and the bytes of its units
-unfoldable pub recordsTold : List Localized → List ℕ
-recordsTold [] = []
-recordsTold (l ∷ ls) = l .language ∷ l .country ∷ l .offset ∷ 2 * length (l .units) ∷ recordsTold ls
+unfoldable pub localizedTold : List Localized → List ℕ
+localizedTold [] = []
+localizedTold (l ∷ ls) = l .language ∷ l .country ∷ l .offset ∷ 2 * length (l .units) ∷ localizedTold ls
 
 -- a string of units that lies in the tag is taken, and one with an odd byte behind them, which is dropped
 pub record StringTaken (t : List ℕ) (l : Localized) : Type 0 where
@@ -130,4 +130,4 @@ pub record ReadLocalized (profile : List ℕ) (entry size n : ℕ) (slots left :
   pub begins : BeginsLocalized (tagIn profile entry size) records
   pub count-is : n ≡ length records
   pub room : length records * recordWords ≤ length slots
-  pub left-is : left ≡ recordsTold records ++ drop (length (recordsTold records)) slots
+  pub slots-are : left ≡ localizedTold records ++ drop (length (localizedTold records)) slots

@@ -10,10 +10,10 @@ use Rattle.fields.specs.House.{tagSize}
 use Rattle.fields.specs.Place.{tagAt, countedSize}
 use Rattle.fields.specs.Tag.{signatureOf}
 use Rattle.fields.specs.declared.Kind.the-variants.{Text, Desc, Mluc}
-use Rattle.text_meaning.specs.Answer.{Answer, text, desc, mluc, absent, refused, span, nowhere, Unicode, paper, leftBy}
+use Rattle.text_meaning.specs.Answer.{Answer, text, desc, mluc, absent, refused, span, nowhere, Unicode, inNumbers, slotsWith}
 use Rattle.text_meaning.specs.Cut.{byteOf, unitOf, keptOf}
 use Rattle.text_meaning.specs.Layout.{textStart, asciiStart, asciiCount, asciiEnd, unicodeLanguage, unicodeCount, unicodeStart, unicodeEnd}
-use Rattle.text_meaning.specs.Mluc.{Fault, header, string, End, whole, stopped, recordsAsked, recordsIn, recordWords, wordsIn}
+use Rattle.text_meaning.specs.Mluc.{Fault, header, string, RecordsEnd, whole, stopped, recordsAsked, recordsIn, recordWords, wordsIn}
 use Rattle.text_meaning.specs.declared.TextAnswer.{TextAnswer}
 
 -- `text`: the bytes up to the tag's end
@@ -42,7 +42,7 @@ faulty string = absent
 unfoldable pub slottedOf : ℕ → ℕ → Answer
 slottedOf n words = cond (ltb (words / recordWords) n) (refused 14) (mluc n)
 
-abbrev pub endedBy : End → Answer → Answer
+abbrev pub endedBy : RecordsEnd → Answer → Answer
 endedBy whole a = a
 endedBy (stopped f) a = faulty f
 
@@ -69,11 +69,11 @@ stringOf profile entry size words =
     byType (tagOf profile entry size) words)))
 
 -- what such a call leaves of the lent slots
-abbrev pub leftOf : List ℕ → ℕ → ℕ → List ℕ → List ℕ
-leftOf profile entry size slots =
-    leftBy (stringOf profile entry size (length slots)) (wordsIn (recordsIn (tagOf profile entry size) .records)) slots
+abbrev pub slotsAfter : List ℕ → ℕ → ℕ → List ℕ → List ℕ
+slotsAfter profile entry size slots =
+    slotsWith (stringOf profile entry size (length slots)) (wordsIn (recordsIn (tagOf profile entry size) .records)) slots
 
 -- what a call answers, and what it leaves of the lent slots
-pub record Said (t : List ℕ) (answer : Answer) (r : TextAnswer) (before after : List ℕ) : Type 0 where
-  pub answer-is : paper r ≡ answer
-  pub left-is : after ≡ leftBy answer (wordsIn (recordsIn t .records)) before
+pub record AnswerAndSlots (t : List ℕ) (answer : Answer) (r : TextAnswer) (before after : List ℕ) : Type 0 where
+  pub answer-is : inNumbers r ≡ answer
+  pub slots-are : after ≡ slotsWith answer (wordsIn (recordsIn t .records)) before

@@ -12,11 +12,12 @@ use lib.Seq.{sets, sets-eq, length-sets}
 use types.Run.{OneOf}
 use denote.Enum.Declared.{tagOf as placeIn}
 use borrow.Author.Tests.{eq-eqb, ne-eqb, lt-ltb, le-ltb, ltb-false}
+use Rattle.fields.proofs.Never.{never}
 use Rattle.fields.specs.Bytes.{u16At, u32At}
 use Rattle.fields.proofs.Stores.{sets-append}
 use Rattle.text_mluc.specs.Items.{recordFrom, faultFrom, seenFrom}
 use Rattle.text_meaning.specs.Layout.{headerEnd, stringEnd}
-use Rattle.text_meaning.specs.Mluc.{Localized, Fault, header, string, is, no, whole, stopped, Ran, stops, first, even, localizedAt, recordAt, recordsFrom, recordsAsked, recordWords, wordsOf, wordsIn}
+use Rattle.text_meaning.specs.Mluc.{Localized, Fault, header, string, is, no, whole, stopped, RecordsRead, stops, first, even, localizedAt, recordAt, recordsFrom, recordsAsked, recordWords, wordsOf, wordsIn}
 use Rattle.text_mluc.specs.declared.Fault.{Fault as CodeFault}
 use Rattle.text_mluc.specs.declared.Item.{Item}
 use Rattle.text_mluc.specs.declared.TextRecord.{TextRecord}
@@ -62,7 +63,7 @@ unfolding recordAt
 header-inside t k r = by (ltb (length t) (headerEnd k)) refl
   where
     by : (b : Bool) → ltb (length t) (headerEnd k) ≡ b → cond b (no header) (cond (ltb (length t) (stringEnd t k)) (no string) (is (localizedAt t k))) ≡ is r → headerEnd k ≤ length t
-    by true e h = let z : _≡_ {A = ℕ} 0 1 = cc in absurd (omega arith)
+    by true e h = never cc
     by false e h = ltb-false (length t) (headerEnd k) e
 
 -- each turn has a header of 12 bytes behind it, so there are no more turns than the tag has bytes
@@ -80,10 +81,10 @@ module _ (t : List ℕ) (n k : ℕ) (left : recordsFrom t 0 n .end ≡ recordsFr
   module _ (l : k < n) (got : Item) (h : seenFrom got ≡ recordAt t k) where
     pub judge-turns : (r : TextRecord) → got ≡ Item.Record r → recordsFrom t 0 n .end ≡ recordsFrom t (k + 1) (n - (k + 1)) .end
     judge-turns r e =
-        left ∙ ap (λ (i : ℕ). recordsFrom t k i .end) (one-less n k l) ∙ ap (λ (x : Ran). x .end) (records-turn t k (n - (k + 1)) (recordFrom r) (sym h ∙ ap seenFrom e))
+        left ∙ ap (λ (i : ℕ). recordsFrom t k i .end) (one-less n k l) ∙ ap (λ (x : RecordsRead). x .end) (records-turn t k (n - (k + 1)) (recordFrom r) (sym h ∙ ap seenFrom e))
 
     pub judge-stops : (why : CodeFault) → got ≡ Item.No why → stopped (faultFrom why) ≡ recordsFrom t 0 n .end
-    judge-stops why e = sym (left ∙ ap (λ (i : ℕ). recordsFrom t k i .end) (one-less n k l) ∙ ap (λ (x : Ran). x .end) (records-stop t k (n - (k + 1)) (faultFrom why) (sym h ∙ ap seenFrom e)))
+    judge-stops why e = sym (left ∙ ap (λ (i : ℕ). recordsFrom t k i .end) (one-less n k l) ∙ ap (λ (x : RecordsRead). x .end) (records-stop t k (n - (k + 1)) (faultFrom why) (sym h ∙ ap seenFrom e)))
 
 -- ---- how many are asked for
 
@@ -114,14 +115,14 @@ module _ (t : List ℕ) (n : ℕ) (s₀ : List ℕ) where
     unfolding wordsIn
     write-turns r s' e p =
         let ws : List ℕ = wordsOf (recordFrom r) in
-        let rest : Ran = recordsFrom t (k + 1) (n - (k + 1)) in
+        let rest : RecordsRead = recordsFrom t (k + 1) (n - (k + 1)) in
         let turn : recordsFrom t k (n - k) ≡ first (recordFrom r) rest = ap (recordsFrom t k) (one-less n k l) ∙ records-turn t k (n - (k + 1)) (recordFrom r) (sym h ∙ ap seenFrom e) in
         let next : (k + 1) * recordWords ≡ k * recordWords + length ws = omega arith in
-        let all : wordsIn (recordsFrom t k (n - k) .records) ≡ ws ++ wordsIn (rest .records) = ap (λ (x : Ran). wordsIn (x .records)) turn in
+        let all : wordsIn (recordsFrom t k (n - k) .records) ≡ ws ++ wordsIn (rest .records) = ap (λ (x : RecordsRead). wordsIn (x .records)) turn in
         record {
           within = omega arith;
           long = ap length p ∙ length-sets s (k * recordWords) ws ∙ w .long;
-          good = sym (ap (λ (x : Ran). x .end) turn) ∙ w .good;
+          good = sym (ap (λ (x : RecordsRead). x .end) turn) ∙ w .good;
           left = ap (λ (y : List ℕ). sets y ((k + 1) * recordWords) (wordsIn (rest .records))) p ∙ rw (next, ← sets-append ws (wordsIn (rest .records)) s (k * recordWords), ← all) (w .left);
         }
 
@@ -135,7 +136,7 @@ module _ (t : List ℕ) (n : ℕ) (s₀ : List ℕ) where
         by (Item.No why) e z =
             let g : recordsFrom t k (suc (n - (k + 1))) .end ≡ whole = rw (one-less n k l) at (w .good) in
             let f = rw (sym h ∙ ap seenFrom e) at g in
-            let y : _≡_ {A = ℕ} 0 1 = cc in omega arith
+            never cc
 
   pub write-ends : (s : List ℕ) (k : ℕ) → Writing s k → n ≤ k → n * recordWords ≤ length s₀ → recordsFrom t 0 n .end ≡ whole → s ≡ wordsIn (recordsFrom t 0 n .records) ++ drop (n * recordWords) s₀
   unfolding wordsIn recordsFrom

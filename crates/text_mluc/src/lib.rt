@@ -8,8 +8,8 @@ ghost use Prim.Native.Nat.{_+_, _*_, _≤_};
 ghost use lib.ListN.{length, drop};
 ghost use lib.Seq.{sets};
 ghost use Rattle.text_meaning.specs.Mluc.{whole, recordAt, recordsFrom, recordsAsked, recordWords, wordsOf, wordsIn};
-ghost use Rattle.text_meaning.specs.Answer.{paper};
-ghost use Rattle.text_meaning.specs.Text.{Said, faulty as faultyBy, slottedOf, mlucOf};
+ghost use Rattle.text_meaning.specs.Answer.{inNumbers};
+ghost use Rattle.text_meaning.specs.Text.{AnswerAndSlots, faulty as faultyBy, slottedOf, mlucOf};
 ghost use Rattle.text_mluc.specs.Items.{recordFrom, faultFrom, seenFrom, endFrom};
 
 // The words of a record, and so of a slot.
@@ -118,7 +118,7 @@ fn records_asked(tag: &[u8]) -> u32
 // Writes n records that were judged whole, if the slots suffice, and answers.
 fn write_all(tag: &[u8], n: u32, slots: &mut [u32]) -> TextAnswer
     requires { ⌜ (n ≡ recordsAsked (now tag)) × (recordsFrom (now tag) 0 n .end ≡ whole) ⌝ }
-    ensures { λ r. ⌜ Said (now (tag .entry)) (slottedOf n (length (now (slots .entry)))) r (now (slots .entry)) (now (slots .exit)) ⌝ }
+    ensures { λ r. ⌜ AnswerAndSlots (now (tag .entry)) (slottedOf n (length (now (slots .entry)))) r (now (slots .entry)) (now (slots .exit)) ⌝ }
 {
     if slots.len() / TEXT_RECORD_WORDS < n as usize {
         return TextAnswer::Refused(Refusal::TooFewSlots);
@@ -129,7 +129,7 @@ fn write_all(tag: &[u8], n: u32, slots: &mut [u32]) -> TextAnswer
 
 // What a fault is answered by.
 fn faulty(why: Fault) -> TextAnswer
-    ensures { λ r. ⌜ paper r ≡ faultyBy (faultFrom why) ⌝ }
+    ensures { λ r. ⌜ inNumbers r ≡ faultyBy (faultFrom why) ⌝ }
 {
     match why {
         Fault::Header => TextAnswer::Refused(Refusal::TagTooShort),
@@ -139,7 +139,7 @@ fn faulty(why: Fault) -> TextAnswer
 
 // The records of the tag.
 pub fn read_mluc(tag: &[u8], slots: &mut [u32]) -> TextAnswer
-    ensures { λ r. ⌜ Said (now (tag .entry)) (mlucOf (now (tag .entry)) (length (now (slots .entry)))) r (now (slots .entry)) (now (slots .exit)) ⌝ }
+    ensures { λ r. ⌜ AnswerAndSlots (now (tag .entry)) (mlucOf (now (tag .entry)) (length (now (slots .entry)))) r (now (slots .entry)) (now (slots .exit)) ⌝ }
 {
     let n = records_asked(tag);
     let judged = check_records(tag, n);

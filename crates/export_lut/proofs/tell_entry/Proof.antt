@@ -1,16 +1,16 @@
 -- `export_lut::tell_entry` meets its contract: the word is the entry, or the status tells that there is none.
 -- Assumes nothing.
 use mathlib.Core.Path.{refl}
-use Rattle.lut_view_meaning.specs.Answer.{paper}
+use Rattle.lut_view_meaning.specs.Answer.{inNumbers}
 use Rattle.lut_view_meaning.specs.declared.EntryAnswer.{EntryAnswer}
-use Rattle.export_lut.specs.Layout.{entryTold}
+use Rattle.export_lut.specs.Layout.{entryExported}
 use Rattle.export_words.proofs.Telling.{tells}
 use borrow.Author.Needs.{needs}
 use Rattle.export_lut.proofs.tell_entry.Statement.{statement}
 use Rattle.export_lut.proofs.tell_entry.Tie as tie
 
 returns : tie.Need-returns
-returns c = tells (λ (a : EntryAnswer). entryTold (paper a)) (c .before .before .before .before .before .before .got .given .1) record { status-is = refl; out-is = c .before .before .put-numbers .ensures }
+returns c = tells (λ (a : EntryAnswer). entryExported (inNumbers a)) (c .before .before .before .before .before .before .got .given .1) record { status-is = refl; out-is = c .before .before .put-numbers .ensures }
 
 pub tell-entry-spec : {M : Type 1} → statement M
 tell-entry-spec =

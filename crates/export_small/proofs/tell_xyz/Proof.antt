@@ -1,19 +1,19 @@
 -- `export_small::tell_xyz` meets its contract: the words are the answer's, or the status tells why there are none.
 -- Assumes nothing.
 use mathlib.Core.Path.{refl}
-use Rattle.small_meaning.specs.Answer.{paperXyz}
+use Rattle.small_meaning.specs.Answer.{xyzInNumbers}
 use Rattle.small_meaning.specs.declared.XyzAnswer.{XyzAnswer}
-use Rattle.export_small.specs.Layout.{smallTold}
+use Rattle.export_small.specs.Layout.{smallExported}
 use Rattle.export_words.proofs.Telling.{tells}
 use borrow.Author.Needs.{needs}
 use Rattle.export_small.proofs.tell_xyz.Statement.{statement}
 use Rattle.export_small.proofs.tell_xyz.Tie as tie
 
 returns : tie.Need-returns
-returns c = tells (λ (a : XyzAnswer). smallTold (paperXyz a)) (c .before .before .before .before .before .before .got .given .1) record { status-is = refl; out-is = c .before .before .put-words .ensures }
+returns c = tells (λ (a : XyzAnswer). smallExported (xyzInNumbers a)) (c .before .before .before .before .before .before .got .given .1) record { status-is = refl; out-is = c .before .before .put-words .ensures }
 
 returns-3 : tie.Need-returns-3
-returns-3 c = tells (λ (a : XyzAnswer). smallTold (paperXyz a)) (c .before .before .got2 .given .1) record { status-is = c .number .ensures; out-is = refl }
+returns-3 c = tells (λ (a : XyzAnswer). smallExported (xyzInNumbers a)) (c .before .before .got2 .given .1) record { status-is = c .number .ensures; out-is = refl }
 
 pub tell-xyz-spec : {M : Type 1} → statement M
 tell-xyz-spec =

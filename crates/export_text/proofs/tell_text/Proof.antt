@@ -2,26 +2,26 @@
 -- Assumes nothing.
 use mathlib.Core.Path.{refl}
 use Rattle.fields.specs.Tag.{signatureOf}
-use Rattle.text_meaning.specs.Answer.{paper}
+use Rattle.text_meaning.specs.Answer.{inNumbers}
 use Rattle.text_meaning.specs.declared.TextAnswer.{TextAnswer}
-use Rattle.export_text.specs.Layout.{textTold}
+use Rattle.export_text.specs.Layout.{textExported}
 use Rattle.export_words.proofs.Telling.{tells}
 use borrow.Author.Needs.{needs}
 use Rattle.export_text.proofs.tell_text.Statement.{statement}
 use Rattle.export_text.proofs.tell_text.Tie as tie
 
 returns : tie.Need-returns
-returns c = tells (λ (a : TextAnswer). textTold (paper a)) (c .before .before .before .before .before .got .given .1) record { status-is = refl; out-is = c .before .before .put-text .ensures }
+returns c = tells (λ (a : TextAnswer). textExported (inNumbers a)) (c .before .before .before .before .before .got .given .1) record { status-is = refl; out-is = c .before .before .put-text .ensures }
 
 returns-2 : tie.Need-returns-2
-returns-2 c = tells (λ (a : TextAnswer). textTold (paper a)) (c .before .before .before .before .before .got2 .given .1) record { status-is = refl; out-is = c .before .before .put-desc .ensures }
+returns-2 c = tells (λ (a : TextAnswer). textExported (inNumbers a)) (c .before .before .before .before .before .got2 .given .1) record { status-is = refl; out-is = c .before .before .put-desc .ensures }
 
 returns-3 : tie.Need-returns-3
 unfolding signatureOf
-returns-3 c = tells (λ (a : TextAnswer). textTold (paper a)) (c .before .before .before .before .before .before .got3 .given .1) record { status-is = refl; out-is = c .before .before .put-words .ensures }
+returns-3 c = tells (λ (a : TextAnswer). textExported (inNumbers a)) (c .before .before .before .before .before .before .got3 .given .1) record { status-is = refl; out-is = c .before .before .put-words .ensures }
 
 returns-5 : tie.Need-returns-5
-returns-5 c = tells (λ (a : TextAnswer). textTold (paper a)) (c .before .before .got4 .given .1) record { status-is = c .number .ensures; out-is = refl }
+returns-5 c = tells (λ (a : TextAnswer). textExported (inNumbers a)) (c .before .before .got4 .given .1) record { status-is = c .number .ensures; out-is = refl }
 
 pub tell-text-spec : {M : Type 1} → statement M
 tell-text-spec =

@@ -45,7 +45,7 @@ use denote.Triple.Table.{entered, cited}
 use denote.Triple.Walked.{says, Stays, stay-none, stay-none-slice, walkOf, goes-none, goes-none-slice, Walks, ends-at, walked, walk-meets}
 use denote.Exit.{yes}
 use denote.Triple.Clauses.{ensured, lasts}
-use Rattle.lut_view_meaning.specs.Answer.{Told, paper}
+use Rattle.lut_view_meaning.specs.Answer.{Answer, inNumbers}
 use Rattle.lut_view_meaning.specs.View.{tableBy, entryOf}
 use Rattle.lut_view_meaning.specs.declared.EntryAnswer.{EntryAnswer}
 use Rattle.lut_view_meaning.specs.declared.TableView.{TableView}
@@ -99,7 +99,7 @@ module _ {M : Type 1} (𝓤 : URA M) (H : Heap 𝓤) (A : Atoms 𝓤) (W : Given
   abbrev n : Val
   n = N′.lowered (d .numbers)
 
-  abbrev found : Told
+  abbrev found : Answer
   found = entryOf (now (d .tag)) (tableBy (now (d .tag)) (d .numbers)) (now x) ch
 
   abbrev at : Vals this.signature κs
@@ -143,10 +143,10 @@ module _ {M : Type 1} (𝓤 : URA M) (H : Heap 𝓤) (A : Atoms 𝓤) (W : Given
       move ! (3 ∷ 0 ∷ []) $ use2 W (raw (Callee 𝓤 H A mem run .pre to)) asked $ frame ! $ frame ! $ done !)
 
   -- of the callee's `ensured`, the clause alone: it has no `&mut`, so what is said of last values is dropped
-  said : (r : EntryAnswer) → ent 𝓤 (ensured 𝓤 H A callee.ended (callee.clauses 𝓤 H A mem run) κs (d .tag, (d .numbers, (x, (ch, tt)))) tt r) (fact 𝓤 (paper r ≡ found))
-  said r = exE 𝓤 _ (λ ws. snd∗ 𝓤 (sem 𝓤 H A (lasts callee.ended κs (d .tag, (d .numbers, (x, (ch, tt)))) ws)) (fact 𝓤 (paper r ≡ found)))
+  said : (r : EntryAnswer) → ent 𝓤 (ensured 𝓤 H A callee.ended (callee.clauses 𝓤 H A mem run) κs (d .tag, (d .numbers, (x, (ch, tt)))) tt r) (fact 𝓤 (inNumbers r ≡ found))
+  said r = exE 𝓤 _ (λ ws. snd∗ 𝓤 (sem 𝓤 H A (lasts callee.ended κs (d .tag, (d .numbers, (x, (ch, tt)))) ws)) (fact 𝓤 (inNumbers r ≡ found)))
 
-  exits : ch < 2 ^ 8 → (r : EntryAnswer) (u : Val) → paper r ≡ found → ent 𝓤 (⋆ 𝓤 H A (‵ (S.the-row .own r (u ∷ [])) ∷ (‵ (flft κ q) ⊛ ‵ (flft κ′ q′) ⊛ ‵ ftrue) ∷ (‵ Own ⊛ ‵ Idx) ∷ [])) (Post u)
+  exits : ch < 2 ^ 8 → (r : EntryAnswer) (u : Val) → inNumbers r ≡ found → ent 𝓤 (⋆ 𝓤 H A (‵ (S.the-row .own r (u ∷ [])) ∷ (‵ (flft κ q) ⊛ ‵ (flft κ′ q′) ⊛ ‵ ftrue) ∷ (‵ Own ⊛ ‵ Idx) ∷ [])) (Post u)
   exits gc r u e =
       qed W (‵ (S.the-row .own r (u ∷ [])) ∷ (‵ (flft κ q) ⊛ ‵ (flft κ′ q′) ⊛ ‵ ftrue) ∷ (‵ Own ⊛ ‵ Idx) ∷ []) ∵
       suffices ! _ (ends-at 𝓤 H A this.ended stayed (this.clauses 𝓤 H A mem run) W ((κs, (q, (q′, tt)), tt, (d, (x, (ch, tt))), at), tt) u r (tt, (tt, (tt, tt))) (tt, (tt, (tt, tt)))) $ says ! e $
@@ -167,7 +167,7 @@ module _ {M : Type 1} (𝓤 : URA M) (H : Heap 𝓤) (A : Atoms 𝓤) (W : Given
         calls-at ! fm (Callee 𝓤 H A mem run) known to
         (and-then ! (load ! (from ! (stop !)) (look ! 4 refl)) (and-then ! (load ! (from ! (stop !)) (look ! 2 refl)) (and-then ! (load ! (from ! (stop !)) (look ! 8 refl)) (and-then ! (load ! (from ! (stop !)) (look ! 6 refl)) (no-more !))))) (λ u.
         use1 W (later (some (λ (r : EntryAnswer). ((‵ (flft κ q) ⊛ ‵ (flft κ′ q′) ⊛ ‵ ftrue) ⊛ ‵ (S.the-row .own r (u ∷ []))) ⊛ raw (ensured 𝓤 H A callee.ended (callee.clauses 𝓤 H A mem run) κs (d .tag, (d .numbers, (x, (ch, tt)))) tt r)))) (id⊢ 𝓤 _) $ await ! tt $ pick ! (λ r.
-        split ! $ move ! (1 ∷ []) $ use1 W (raw (fact 𝓤 (paper r ≡ found))) (said r) $ heard ! (paper r ≡ found) (λ e. split ! $ move ! (1 ∷ []) $
+        split ! $ move ! (1 ∷ []) $ use1 W (raw (fact 𝓤 (inNumbers r ≡ found))) (said r) $ heard ! (inNumbers r ≡ found) (λ e. split ! $ move ! (1 ∷ []) $
         -- [the result; the tokens; what is kept; _5; …; _4; …; _3; …; _2; …; _1; …; room for _0; …]
         peeks ! S.the-row (Is S.the-row) (shows 𝓤 H A S.the-row) r (u ∷ []) (λ is.
         land ! (from ! (stop !)) (init ! 13 refl (EL.lawful S.the-type S′.the-laws 𝓤 H A W tt .typed r _ is .0)) $

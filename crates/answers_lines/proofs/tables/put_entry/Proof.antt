@@ -1,7 +1,7 @@
 -- `answers_lines::tables::put_entry` meets its contract: the coordinates are there, and each arm writes the text of its answer.
 -- Assumes nothing.
 use borrow.Author.Needs.{needs}
-use Rattle.lut_view_meaning.specs.Answer.{paper}
+use Rattle.lut_view_meaning.specs.Answer.{inNumbers}
 use Rattle.lines.proofs.Writing.{joined}
 use Rattle.answers_meaning.specs.Reply.{entryAt}
 use Rattle.answers_meaning.specs.Texts.{entryText}
@@ -38,9 +38,9 @@ put-entry-spec =
     (λ c. search needs)
     (λ c κs. search needs)
     (λ c. search needs)
-    (λ c. arm paper entryText (entry-is (c .before .before .before .before .before .before .before .before .before .before .before .before .before .before .before .before .before .before .before .before .before .args .answer) (c .before .before .before .before .before .before .before .before .before .before .before .before .before .before .before .before .before .before .before .before .before .args .tag .now) (c .before .before .before .before .before .before .before .before .before .before .before .before .before .before .before .before .before .before .before .before .before .args .behind .now) (c .before .before .before .before .before .before .before .before .before .before .before .before .before .before .before .before .before .before .before .before .before .args .index) _ _ _ _ (c .before .before .before .before .before .before .before .before .before .before .before .before .before .before .before .before .index .given .1) (c .before .before .before .before .before .before .before .before .before .before .before .before .before .before .numbers-of .ensures) (c .before .before .before .before .before .before .before .before .before .before .before .before .entry-at .ensures)) (c .before .before .before .before .before .before .before .before .before .before .got .given .1) (joined (c .before .before .before .before .before .before .put .ensures) (c .before .before .put-number .ensures)))
+    (λ c. arm inNumbers entryText (entry-is (c .before .before .before .before .before .before .before .before .before .before .before .before .before .before .before .before .before .before .before .before .before .args .answer) (c .before .before .before .before .before .before .before .before .before .before .before .before .before .before .before .before .before .before .before .before .before .args .tag .now) (c .before .before .before .before .before .before .before .before .before .before .before .before .before .before .before .before .before .before .before .before .before .args .behind .now) (c .before .before .before .before .before .before .before .before .before .before .before .before .before .before .before .before .before .before .before .before .before .args .index) _ _ _ _ (c .before .before .before .before .before .before .before .before .before .before .before .before .before .before .before .before .index .given .1) (c .before .before .before .before .before .before .before .before .before .before .before .before .before .before .numbers-of .ensures) (c .before .before .before .before .before .before .before .before .before .before .before .before .entry-at .ensures)) (c .before .before .before .before .before .before .before .before .before .before .got .given .1) (joined (c .before .before .before .before .before .before .put .ensures) (c .before .before .put-number .ensures)))
     (λ c. search needs)
-    (λ c. arm paper entryText (entry-is (c .before .before .before .before .before .before .before .before .before .before .before .before .before .before .before .before .args .answer) (c .before .before .before .before .before .before .before .before .before .before .before .before .before .before .before .before .args .tag .now) (c .before .before .before .before .before .before .before .before .before .before .before .before .before .before .before .before .args .behind .now) (c .before .before .before .before .before .before .before .before .before .before .before .before .before .before .before .before .args .index) _ _ _ _ (c .before .before .before .before .before .before .before .before .before .before .before .index .given .1) (c .before .before .before .before .before .before .before .before .before .numbers-of .ensures) (c .before .before .before .before .before .before .before .entry-at .ensures)) (c .before .before .before .before .before .enum-told .given .1) (c .before .before .put2 .ensures))
+    (λ c. arm inNumbers entryText (entry-is (c .before .before .before .before .before .before .before .before .before .before .before .before .before .before .before .before .args .answer) (c .before .before .before .before .before .before .before .before .before .before .before .before .before .before .before .before .args .tag .now) (c .before .before .before .before .before .before .before .before .before .before .before .before .before .before .before .before .args .behind .now) (c .before .before .before .before .before .before .before .before .before .before .before .before .before .before .before .before .args .index) _ _ _ _ (c .before .before .before .before .before .before .before .before .before .before .before .index .given .1) (c .before .before .before .before .before .before .before .before .before .numbers-of .ensures) (c .before .before .before .before .before .before .before .entry-at .ensures)) (c .before .before .before .before .before .enum-told .given .1) (c .before .before .put2 .ensures))
     (λ c. search needs)
     (λ c. rw (c .before .before .before .before .before .enum-told2 .given .1) (c .before .before .put3 .ensures))
     (λ c. search needs)

@@ -1,14 +1,14 @@
 -- `exports::texts::khalyksor_read_string_tag` meets its contract: what is told of the reader's result is told of its meaning.
 -- Assumes nothing.
 use mathlib.Core.Path.{ap}
-use Rattle.export_text.specs.Layout.{textTold}
+use Rattle.export_text.specs.Layout.{textExported}
 use Rattle.export_words.proofs.Telling.{no-room-slots, with-room-slots}
 use borrow.Author.Needs.{needs}
 use Rattle.exports.proofs.texts.khalyksor_read_string_tag.Statement.{statement}
 use Rattle.exports.proofs.texts.khalyksor_read_string_tag.Tie as tie
 
 returns-2 : tie.Need-returns-2
-returns-2 c = with-room-slots _ _ _ _ _ _ _ _ _ (c .before .before .before .before .before .before .before .before .if1 .left) (ap textTold (c .before .before .before .before .before .before .read-string-tag .ensures .answer-is)) (c .before .before .before .before .before .before .read-string-tag .ensures .left-is) (c .before .before .tell-text .ensures)
+returns-2 c = with-room-slots _ _ _ _ _ _ _ _ _ (c .before .before .before .before .before .before .before .before .if1 .left) (ap textExported (c .before .before .before .before .before .before .read-string-tag .ensures .answer-is)) (c .before .before .before .before .before .before .read-string-tag .ensures .slots-are) (c .before .before .tell-text .ensures)
 
 pub khalyksor-read-string-tag-spec : {M : Type 1} → statement M
 khalyksor-read-string-tag-spec =

@@ -1,7 +1,7 @@
 -- `plain_replies::smalls::dtim` meets its contract: each arm writes the text of its answer.
 -- Assumes nothing.
 use borrow.Author.Needs.{needs}
-use Rattle.small_meaning.specs.Answer.{paperDate}
+use Rattle.small_meaning.specs.Answer.{dateInNumbers}
 use Rattle.lines.specs.Text.{numbers}
 use Rattle.lines.proofs.Writing.{joined}
 use Rattle.answers_meaning.specs.Plain.{smallText}
@@ -26,8 +26,8 @@ dtim-spec =
     (λ c. search needs)
     (λ c κs. search needs)
     (λ c. search needs)
-    (λ c. arm paperDate (smallText numbers) (c .before .before .before .before .before .before .before .before .before .before .before .before .before .read-date-time-tag .ensures) (c .before .before .before .before .before .before .before .before .before .before .before .got .given .1) (joined (c .before .before .before .before .before .before .before .put .ensures) (c .before .before .put-bytes .ensures)))
+    (λ c. arm dateInNumbers (smallText numbers) (c .before .before .before .before .before .before .before .before .before .before .before .before .before .read-date-time-tag .ensures) (c .before .before .before .before .before .before .before .before .before .before .before .got .given .1) (joined (c .before .before .before .before .before .before .before .put .ensures) (c .before .before .put-bytes .ensures)))
     (λ c. search needs)
-    (λ c. arm paperDate (smallText numbers) (c .before .before .before .before .before .before .before .read-date-time-tag .ensures) (c .before .before .before .before .before .enum-told .given .1) (c .before .before .put2 .ensures))
+    (λ c. arm dateInNumbers (smallText numbers) (c .before .before .before .before .before .before .before .read-date-time-tag .ensures) (c .before .before .before .before .before .enum-told .given .1) (c .before .before .put2 .ensures))
     (λ c. search needs)
-    (λ c. arm paperDate (smallText numbers) (c .before .before .before .before .before .before .before .read-date-time-tag .ensures) (c .before .before .before .before .before .got2 .given .1) (c .before .before .put-refused .ensures)))
+    (λ c. arm dateInNumbers (smallText numbers) (c .before .before .before .before .before .before .before .read-date-time-tag .ensures) (c .before .before .before .before .before .got2 .given .1) (c .before .before .put-refused .ensures)))
