@@ -4,7 +4,7 @@ use mathlib.Core.Path.{_≡_, refl, sym, ap, _∙_}
 use mathlib.Core.List.{List}
 use Prim.Native.Nat.{ℕ}
 use lib.ListN.{getD}
-use Rattle.fields.specs.Checked.{Checked}
+use Rattle.fields.specs.Checked.{Checked, good, bad}
 use Rattle.curve_meaning.specs.Shape.{Shape}
 use Rattle.fields.proofs.Numbers.{nameOf, named}
 use Rattle.fields.proofs.Once.{once}

@@ -4,6 +4,7 @@ use mathlib.Core.Path.{_≡_}
 use mathlib.Core.List.{List, [], _∷_, _++_, map}
 use lib.IntN.{ℤ, pos, negsuc}
 use lib.ListN.{take, drop, replicate}
+use Rattle.fields.specs.Checked.{Checked, good, bad}
 use Rattle.fields.specs.Bytes.{signed}
 use Rattle.fields.specs.House.{tagSize}
 use Rattle.curve_meaning.specs.Answer.{Answer, value, absent, refused, stepChecked, slotWith, inSlot}

@@ -51,9 +51,9 @@ module _ (walk : Walk) (limit : ℕ) (t : List ℕ) (o n : ℕ) (s₀ : List ℕ
     less = omega arith
 
     -- no refusal is met
-    never : (m : ℕ) → curveAtOffset limit t at ≡ bad m → ⊥
+    no-refusal : (m : ℕ) → curveAtOffset limit t at ≡ bad m → ⊥
     unfolding runAt
-    never m e =
+    no-refusal m e =
         let g : runAt walk limit t at (suc (n - (i + 1))) .end ≡ whole = rw less at (w .good) in
         let f = rw e at g in
         never cc
@@ -68,7 +68,7 @@ module _ (walk : Walk) (limit : ℕ) (t : List ℕ) (o n : ℕ) (s₀ : List ℕ
       where
         by : (x : Checked Shape) → curveAtOffset limit t at ≡ x → Next
         by (good s) e = record { shape = s; seen = e }
-        by (bad m) e = absurd (never m e)
+        by (bad m) e = absurd (no-refusal m e)
 
     pub turns : (s′ : List ℕ) (shape : Shape) → curveAtOffset limit t at ≡ good shape → s′ ≡ sets s (i * recordWords) (wordsOf (at + 12) shape) → Writing s′ (aligned (at + stepOf walk shape)) (i + 1)
     unfolding recordsOf
