@@ -1,6 +1,7 @@
 -- The worked cases hold, jointly: each is computed.
 -- Assumes nothing.
 use mathlib.Core.Path.{refl}
+use Rattle.icc.specs.Each.{Each}
 use Rattle.fields.specs.Bytes.{bytesAt, wordsAt}
 use Rattle.fields.specs.Tag.{signatureOf}
 use Rattle.lut_clut_meaning.specs.Cases.{numbersIn}
@@ -12,7 +13,7 @@ use Rattle.curve_meaning.specs.Curve.{trcOf, curveOf, curvOf as curvOf, paraOf,
 use Rattle.curve_meaning.specs.Layout.{parameterCount}
 use Rattle.curve_meaning.specs.Shape.{sizeOf, stepOf, wordsOf}
 use Rattle.lut_mft_meaning.specs.Layout.{isWide, isMft}
-use Rattle.lut_run_meaning.specs.Run.{Each, aligned, curveAtOffset, runAt, recordsOf}
+use Rattle.lut_run_meaning.specs.Run.{aligned, curveAtOffset, runAt, recordsOf}
 use Rattle.lut_meaning.specs.Abm.{colourTableOf, valueFrom, recordedOf, checkedOf, abmOf}
 use Rattle.lut_meaning.specs.Layout.{present, deviceChannels, spaceChannels, aCurves, mCurves, bCurves, planOf, recordsNeeded, gridOf, matrixOf, biasOf}
 use Rattle.lut_meaning.specs.Lut.{byType, lutOf}

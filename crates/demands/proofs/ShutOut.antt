@@ -7,6 +7,7 @@ use mathlib.Core.Path.{_≡_, refl, ap, _∙_}
 use mathlib.Core.List.{List, [], _∷_, _++_}
 use mathlib.Core.Logic.{inl}
 use lib.ListN.{length, getD, drop, replicate}
+use Rattle.icc.specs.Each.{Each}
 use Rattle.fields.proofs.Never.{never}
 use Rattle.icc.specs.Curves.{sampled, parametric, curveElement, curveType, parametricCurveType, type0, encoded, parameters, Defined}
 use Rattle.icc.specs.Elements.{Stands, aToB, Head, headElement, PlacedCurve, CurvesFrom, no-curves, some-curves, no-matrix, no-clut, LutParts, LutCurves}
@@ -17,7 +18,7 @@ use Rattle.curve_meaning.specs.Cases.{none, two}
 use Rattle.curve_meaning.specs.Shape.{Shape, empty, table, para, wordsOf}
 use Rattle.curve_meaning.specs.Standard.{Fits, recordTold, Tag}
 use Rattle.curve_meaning.specs.declared.Walk.the-variants.{Crate, Book}
-use Rattle.lut_run_meaning.specs.Run.{aligned, Each}
+use Rattle.lut_run_meaning.specs.Run.{aligned}
 use Rattle.lut_run_meaning.specs.Standard.{Passes, recordsTold}
 use Rattle.lut_meaning.specs.Answer.{State, mft, abm, absent as State·absent, refused as State·refused, stateFrom, Answer as Lut·Answer}
 use Rattle.lut_meaning.specs.Cases.{tag as threeCurves, slots}
@@ -51,7 +52,7 @@ abbrev black : List ℕ
 black = 0x58 ∷ 0x59 ∷ 0x5a ∷ 0x20 ∷ replicate 16 0
 
 always-default : (l : Library) → Demand2 (alwaysDefault l) → ⊥
-unfolding Each32 xyzType eachXyz
+unfolding Each xyzType eachXyz
 always-default l d =
     let x : SomeXyz = record { first = record { X = 0; Y = 0; Z = 0 }; others = [] } in
     let e = d .xyz-read (lone [] 0) black 0 20 0 x [] (omega arith, (omega arith, (omega arith, tt))) (omega arith) refl in
@@ -112,7 +113,7 @@ parts-taken =
     }
 
 curves-taken : CurvesTaken Book 4096 curves
-unfolding Each Fits Passes Each32 parameters Defined
+unfolding Each Fits Passes parameters Defined
 curves-taken =
     record {
       a-fit = tt;

@@ -7,6 +7,7 @@ use mathlib.Core.List.{List, [], _∷_, _++_}
 use mathlib.Core.Logic.{_⊎_}
 use lib.Dec.{eqb}
 use lib.ListN.{length, take, drop, replicate}
+use Rattle.icc.specs.Each.{Each}
 use Rattle.icc.specs.Elements.{Stands}
 use Rattle.icc.specs.Numbers.{be32, each16, Is16, Is32, Each16}
 use Rattle.icc.specs.Text.{textType, asciiPart, unicodePart, UnicodeString, no-string, characters, Description, Localized, localizedHead, LocalizedTag}
@@ -84,15 +85,11 @@ pub record Fits (l : Localized) : Type 0 where
   pub bytes : Is32 (l .bytes)
   pub offset : Is32 (l .offset)
 
-unfoldable pub AllFit : List Localized → Type 0
-AllFit [] = Unit
-AllFit (l ∷ ls) = Fits l × AllFit ls
-
 -- what is asked of a tag: a record at least
 pub record Asked {t : List ℕ} (tag : LocalizedTag t) : Type 0 where
   pub some-record : 1 ≤ length (tag .records)
   pub count-fits : Is32 (length (tag .records))
-  pub fit : AllFit (tag .records)
+  pub fit : Each Fits (tag .records)
 
 -- the words of the records: language, country, where the string starts, and the bytes of its units
 unfoldable pub localizedTold : List Localized → List ℕ
