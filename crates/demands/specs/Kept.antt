@@ -7,7 +7,8 @@ use Rattle.small_meaning.proofs.Unique.{chadFrom, sigFrom, dateFrom, measFrom, 
 use Rattle.lut_view_meaning.specs.Answer.{Answer}
 use Rattle.lut_view_meaning.specs.View.{tableBy, entryOf}
 use Rattle.lut_view_meaning.specs.declared.EntryAnswer.{EntryAnswer}
-use Rattle.demands.specs.Readers.{Small, chad, sig, date, meas, view, xyz, cicp, Reader, lut, trc, string, small, SmallResult, Result, Numbers, meaning, slotsAfter, Library}
+use Rattle.demands.specs.Readers.{Small, chad, sig, date, meas, view, xyz, cicp, Reader, lut, trc, string, small, SmallResult, Result}
+use Rattle.demands.specs.Readers.{Numbers, meaning, slotsAfter, Library}
 
 -- the result that stands for an answer
 abbrev pub smallResult : (s : Small) → Small·Answer → SmallResult s
