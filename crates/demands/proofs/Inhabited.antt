@@ -45,11 +45,11 @@ use Rattle.small_meaning.specs.Layout.{nineNumbers, signatureIn, dateBytes, mea
 use Rattle.small_meaning.specs.Order.{answerTo as Small·answerTo}
 use Rattle.small_meaning.specs.Small.{matrixOf, chadOf, windowOf, tripleOf}
 use Rattle.small_meaning.specs.declared.Found.{Found}
-use Rattle.lut_view_meaning.specs.Answer.{Answer, inNumbers as View·inNumbers}
+use Rattle.lut_view_meaning.specs.Answer.{Answer, inNumbers as View·inNumbers, resultFrom as View·resultFrom}
 use Rattle.lut_view_meaning.specs.View.{tableBy, entryOf}
 use Rattle.demands.specs.Readers.{Small, chad, sig, date, meas, view, xyz, cicp, Reader, lut, trc, string, small, Call, smallNumbers, smallOf, numbers, meaning, Promised}
 use Rattle.demands.specs.Demands.{Demand1, Demand2, Demand3}
-use Rattle.demands.specs.Kept.{smallResult, result, entryResult, kept}
+use Rattle.demands.specs.Kept.{smallResult, result, kept}
 use Rattle.demands.proofs.First.{demand1}
 use Rattle.demands.proofs.Second.{demand2}
 use Rattle.demands.proofs.Third.{demand3}
@@ -252,7 +252,7 @@ shown (trc walk) c = trc-shown walk (c .entries) (c .profile) (c .entry) (c .siz
 shown string c = text-shown (c .profile) (c .entry) (c .size) (length (c .slots))
 shown (small s) c = small-shown s (c .profile) (c .entry) (c .size)
 
-told-back : (a : Answer) → View·inNumbers (entryResult a) ≡ a
+told-back : (a : Answer) → View·inNumbers (View·resultFrom a) ≡ a
 told-back (Answer.value n) = refl
 told-back Answer.absent = refl
 
