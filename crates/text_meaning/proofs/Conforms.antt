@@ -292,7 +292,7 @@ module _ (t : List ℕ) where
       }
 
   row-laid : (k : ℕ) (ls : List Localized) (rest : List ℕ) → drop (16 + 12 * k) t ≡ recordElements ls ++ rest → StringsTaken t ls → Row (RecordTaken t) k (map placed ls)
-  unfolding Row recordElements StringsTaken recordElement
+  unfolding Row recordElements Each recordElement
   row-laid k [] rest e h = tt
   row-laid k (l ∷ ls) rest e (h, hs) =
       let next : 16 + 12 * k + 12 ≡ 16 + 12 * (k + 1) = omega arith in
@@ -355,7 +355,7 @@ module _ (t : List ℕ) where
         }
 
     strings-begun : (k : ℕ) (rs : List Placed) → Row (RecordTaken t) k rs → StringsTaken t (localizedFrom k rs)
-    unfolding localizedFrom Row StringsTaken
+    unfolding localizedFrom Row Each
     strings-begun k [] h = tt
     strings-begun k (r ∷ rs) (h, hs) = (string-begun k (h .string-in-tag), strings-begun (k + 1) rs hs)
 
@@ -395,7 +395,7 @@ module _ (t : List ℕ) where
 -- ---- what the standards write is taken
 
 ascii-cut : (cs : List ℕ) → Ascii cs → NoZeroLast cs
-unfolding Ascii
+unfolding Each
 ascii-cut cs h front e = by front (subst Ascii e h)
   where
     by : (front : List ℕ) → Ascii (front ++ (0 ∷ [])) → ⊥
@@ -403,7 +403,7 @@ ascii-cut cs h front e = by front (subst Ascii e h)
     by (c ∷ front) (h, hs) = by front hs
 
 unicode-cut : (cs : List ℕ) → Utf16 cs → NoZeroLast cs
-unfolding Utf16
+unfolding Each
 unicode-cut cs h front e = by front (subst Utf16 e h)
   where
     by : (front : List ℕ) → Utf16 (front ++ (0 ∷ [])) → ⊥
@@ -411,7 +411,7 @@ unicode-cut cs h front e = by front (subst Utf16 e h)
     by (c ∷ front) (h, hs) = by front hs
 
 unicode-fits : (cs : List ℕ) → Utf16 cs → Each16 cs
-unfolding Utf16 Each
+unfolding Each
 unicode-fits [] h = tt
 unicode-fits (c ∷ cs) (h, hs) = (h .1, unicode-fits cs hs)
 
@@ -443,7 +443,7 @@ desc-begins t reserved d rest h e =
     }
 
 strings-begin : (t : List ℕ) (ls : List Localized) → StringsAt t ls → Each Fits ls → StringsTaken t ls
-unfolding StringsAt Each StringsTaken
+unfolding Each
 strings-begin t [] h f = tt
 strings-begin t (l ∷ ls) (h, hs) (f, fs) = (
   record {

@@ -15,7 +15,7 @@ abbrev abc : List ℕ
 abc = 0x41 ∷ 0x42 ∷ 0x43 ∷ []
 
 abc-ascii : Ascii abc
-unfolding Ascii
+unfolding Each
 abc-ascii = ((omega arith, omega arith), ((omega arith, omega arith), ((omega arith, omega arith), tt)))
 
 pub text-proper : Ascii abc × (fullText ≡ textType 0x01020304 (terminated abc))
@@ -26,7 +26,7 @@ abbrev described : Description
 described = record { ascii = abc; language = 0x05060708; unicode = characters (0x0944 ∷ 0x0A45 ∷ []); scriptCode = 0x0B0C; scriptCount = 13; script = replicate 67 14 }
 
 pub desc-proper : IsDescription described × (fullDesc ≡ textDescriptionType 0x01020304 described)
-unfolding Utf16 IsUnicode textDescriptionType asciiPart unicodePart scriptPart unicodeString each16
+unfolding Each IsUnicode textDescriptionType asciiPart unicodePart scriptPart unicodeString each16
 desc-proper = (
   record {
     ascii = abc-ascii;
@@ -46,7 +46,7 @@ abbrev deAT : Localized
 deAT = record { language = 0x6465; country = 0x4154; bytes = 4; offset = 40; units = 0x0541 ∷ 0x0642 ∷ [] }
 
 unfoldable pub localized : LocalizedTag fullMluc
-unfolding localizedHead recordElements recordElement StringsAt Each each16
+unfolding localizedHead recordElements recordElement Each each16
 localized =
     record {
       reserved = 0x01020304;
@@ -80,7 +80,7 @@ abbrev nothing : Localized
 nothing = record { language = 0x656E; country = 0x5553; bytes = 0; offset = 28; units = [] }
 
 unfoldable pub smallest : LocalizedTag (mlucTag (word 1) (english (word 0) (word 28)))
-unfolding localizedHead recordElements recordElement StringsAt Each each16
+unfolding localizedHead recordElements recordElement Each each16
 smallest =
     record {
       reserved = 0;

@@ -106,9 +106,8 @@ pub record StringTaken (t : List ℕ) (l : Localized) : Type 0 where
   pub in-tag : l .offset ≤ length t
   pub stands : Stands t (l .offset) (each16 (l .units) ++ odd)
 
-unfoldable pub StringsTaken : List ℕ → List Localized → Type 0
-StringsTaken t [] = Unit
-StringsTaken t (l ∷ ls) = StringTaken t l × StringsTaken t ls
+abbrev pub StringsTaken : List ℕ → List Localized → Type 0
+StringsTaken t ls = Each (StringTaken t) ls
 
 -- a count of 0 is taken for 1, and any record size for 12
 pub record BeginsLocalized (t : List ℕ) (ls : List Localized) : Type 0 where
