@@ -4,14 +4,14 @@
 use Prim.Native.Nat.{ℕ, _+_}
 use native.Mathlib.Omega.{arith}
 use mathlib.Core.Path.{_≡_, refl, ap, _∙_}
-use mathlib.Core.List.{List, [], _∷_, _++_}
+use mathlib.Core.List.{List, [], _∷_}
 use mathlib.Core.Logic.{inl}
-use lib.ListN.{length, getD, drop, replicate}
+use lib.ListN.{getD, drop, replicate}
 use Rattle.icc.specs.Each.{Each}
 use Rattle.fields.proofs.Never.{never}
 use Rattle.icc.specs.Curves.{sampled, parametric, curveElement, curveType, parametricCurveType, type0, encoded, parameters, Defined}
 use Rattle.icc.specs.Elements.{Stands, aToB, Head, headElement, PlacedCurve, CurvesFrom, no-curves, some-curves, no-matrix, no-clut, LutParts, LutCurves}
-use Rattle.icc.specs.Numbers.{each16, each32, Each32}
+use Rattle.icc.specs.Numbers.{each16, each32}
 use Rattle.icc.specs.Small.{eachXyz, xyzType}
 use Rattle.fields.specs.House.{houseEntries}
 use Rattle.fields.specs.Refusals.{tooFewSlots}

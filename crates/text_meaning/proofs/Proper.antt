@@ -6,8 +6,8 @@ use mathlib.Core.Path.{_≡_, refl}
 use mathlib.Core.List.{List, [], _∷_}
 use lib.ListN.{replicate}
 use Rattle.icc.specs.Each.{Each}
-use Rattle.icc.specs.Numbers.{each16, Each16}
-use Rattle.icc.specs.Text.{Ascii, Utf16, terminated, textType, asciiPart, unicodePart, scriptPart, characters, unicodeString, IsUnicode, Description, textDescriptionType, IsDescription, Localized, recordElement, recordElements, localizedHead, StringsAt, LocalizedTag}
+use Rattle.icc.specs.Numbers.{each16}
+use Rattle.icc.specs.Text.{Ascii, terminated, textType, asciiPart, unicodePart, scriptPart, characters, unicodeString, IsUnicode, Description, textDescriptionType, IsDescription, Localized, recordElement, recordElements, localizedHead, LocalizedTag}
 use Rattle.text_meaning.specs.Cases.{word, mlucTag, english, fullText, fullDesc, fullMluc}
 use Rattle.text_meaning.specs.Standard.{Asked}
 
