@@ -28,7 +28,7 @@ use Rattle.lut_view_meaning.specs.View.{numbersOf, tableBy, entryOf}
 use Rattle.lut_view_meaning.specs.declared.TableNumbers.{TableNumbers}
 use Rattle.lut_view_meaning.proofs.Any.{invalid-absent}
 use Rattle.lut_view_meaning.proofs.Conforms.{abm-colours, wide-colours, narrow-colours}
-use Rattle.lut_view_meaning.proofs.Shows.{Shows as TableShows, abm-shows, mft-shows}
+use Rattle.lut_view_meaning.proofs.Shows.{Shows as View·Shows, abm-shows, mft-shows}
 use Rattle.text_meaning.specs.Standard.{ReadLocalized}
 use Rattle.text_meaning.proofs.Conforms as Text
 use Rattle.text_meaning.proofs.Unique.{unique as text-unique}
@@ -78,7 +78,7 @@ module _ (l : Library) (p : Promised l) where
 
   -- ---- the view
 
-  shows : (t : List ℕ) (n : TableNumbers) (table : Table) (bytes : ℕ) → TableShows t n table bytes → Shows l t n table bytes
+  shows : (t : List ℕ) (n : TableNumbers) (table : Table) (bytes : ℕ) → View·Shows t n table bytes → Shows l t n table bytes
   shows t n table bytes h index channel valid =
       (p .reads-so t n index channel ∙ h .entry-is index channel (valid .0) (valid .1), h .entry-in-table index channel (valid .0) (valid .1))
 

@@ -57,7 +57,7 @@ withTable inputs outputs grid =
     (0x6d ∷ 0x41 ∷ 0x42 ∷ 0x20 ∷ 0 ∷ 0 ∷ 0 ∷ 0 ∷ inputs ∷ outputs ∷ replicate 17 0)
     ++ (32 ∷ 0 ∷ 0 ∷ 0 ∷ 0 ∷ clut grid 1)
 
--- the ten words of a curve without parameters; a kind, where its data start, and the number of its entries
+-- the words of a curve without parameters: its kind, where its data start, and the number of its entries
 abbrev pub curveWords : ℕ → ℕ → ℕ → List ℕ
 curveWords kind start count = kind ∷ start ∷ count ∷ replicate 7 0
 

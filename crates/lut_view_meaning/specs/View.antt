@@ -37,7 +37,12 @@ gridFrom t at step (suc n) = getD t at 0 ∷ gridFrom t (at + step) step n
 -- the colour table that numbers tell of, in a tag t
 abbrev pub tableBy : List ℕ → TableNumbers → Table
 tableBy t n =
-    record { grid = gridFrom t (n .«grid_at» .0) (n .«grid_step») (min (n .inputs) 16); outputs = n .outputs; start = n .start .0; size = n .«entry_size» }
+    record {
+      grid = gridFrom t (n .«grid_at» .0) (n .«grid_step») (min (n .inputs) 16);
+      outputs = n .outputs;
+      start = n .start .0;
+      size = n .«entry_size»;
+    }
 
 -- the numbers of no colour table: an entry has no bytes
 abbrev pub noNumbers : TableNumbers
@@ -46,9 +51,23 @@ noNumbers = record { start = record { 0 = 0 }; «entry_size» = 0; inputs = 0; o
 -- the numbers of an answer
 abbrev pub numbersOf : State → TableNumbers
 numbersOf (mft f) =
-    record { start = record { 0 = f .clutStart }; «entry_size» = f .size; inputs = f .inputs; outputs = f .outputs; «grid_at» = record { 0 = mftGrid }; «grid_step» = mftStep }
+    record {
+      start = record { 0 = f .clutStart };
+      «entry_size» = f .size;
+      inputs = f .inputs;
+      outputs = f .outputs;
+      «grid_at» = record { 0 = mftGrid };
+      «grid_step» = mftStep;
+    }
 numbersOf (abm f) =
-    record { start = record { 0 = f .start }; «entry_size» = f .size; inputs = f .inputs; outputs = f .outputs; «grid_at» = record { 0 = f .start - clutHead }; «grid_step» = clutStep }
+    record {
+      start = record { 0 = f .start };
+      «entry_size» = f .size;
+      inputs = f .inputs;
+      outputs = f .outputs;
+      «grid_at» = record { 0 = f .start - clutHead };
+      «grid_step» = clutStep;
+    }
 numbersOf State·absent = noNumbers
 numbersOf (refused n) = noNumbers
 
