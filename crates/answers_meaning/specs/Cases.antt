@@ -40,10 +40,6 @@ Holds (leaves reader profile size n letters zs left) =
     answerOf (jobFor reader profile 0 size n) profile [] n
     ≡ record { text = letters ++ printed zs ++ (0x20 ∷ 0x7c ∷ printed (map pos left)) ++ (0x0a ∷ []); left = left }
 
-unfoldable pub All : List Case → Type 0
-All [] = Unit
-All (c ∷ cs) = Holds c × All cs
-
 -- a `chad` tag whose first number is -1 and whose others are 0
 abbrev pub chadTag : List ℕ
 chadTag = 0x73 ∷ 0x66 ∷ 0x33 ∷ 0x32 ∷ 0 ∷ 0 ∷ 0 ∷ 0 ∷ 0xFF ∷ 0xFF ∷ 0xFF ∷ 0xFF ∷ replicate 32 0

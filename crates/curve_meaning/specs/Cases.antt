@@ -40,10 +40,6 @@ Holds (leaves walk limit t slot g left) =
     (stepChecked walk x ≡ g) × (slotWith tagSize slot x ≡ left)
 Holds (counts n s) = tableShape n ≡ s
 
-unfoldable pub All : List Case → Type 0
-All [] = Unit
-All (c ∷ cs) = Holds c × All cs
-
 -- a signature and four reserved bytes
 abbrev pub curv : List ℕ
 curv = 0x63 ∷ 0x75 ∷ 0x72 ∷ 0x76 ∷ 0 ∷ 0 ∷ 0 ∷ 0 ∷ []

@@ -1,6 +1,7 @@
 -- The worked cases hold, jointly: each is computed.
 -- Assumes nothing.
 use mathlib.Core.Path.{refl}
+use Rattle.icc.specs.Each.{Each}
 use Rattle.fields.specs.Bytes.{bytesAt, wordsAt}
 use Rattle.fields.specs.Tag.{signatureOf}
 use Rattle.lut_clut_meaning.specs.Cases.{numbersIn}
@@ -8,11 +9,11 @@ use Rattle.lut_clut_meaning.specs.Clut.{clutOf, shapeOf, some, partials}
 use Rattle.lut_clut_meaning.specs.Table.{product, pointOf}
 use Rattle.curve_meaning.specs.Answer.{answerOf}
 use Rattle.curve_meaning.specs.Cases.{signedParameters}
-use Rattle.curve_meaning.specs.Curve.{trcOf, curveOf, curvOf as curvOf, paraOf, divides}
+use Rattle.curve_meaning.specs.Curve.{trcOf, curveOf, curvOf, paraOf, divides}
 use Rattle.curve_meaning.specs.Layout.{parameterCount}
 use Rattle.curve_meaning.specs.Shape.{sizeOf, stepOf, wordsOf}
 use Rattle.lut_mft_meaning.specs.Layout.{isWide, isMft}
-use Rattle.lut_run_meaning.specs.Run.{Each, aligned, curveAtOffset, runAt, recordsOf}
+use Rattle.lut_run_meaning.specs.Run.{aligned, curveAtOffset, runAt, recordsOf}
 use Rattle.lut_meaning.specs.Abm.{colourTableOf, valueFrom, recordedOf, checkedOf, abmOf}
 use Rattle.lut_meaning.specs.Layout.{present, deviceChannels, spaceChannels, aCurves, mCurves, bCurves, planOf, recordsNeeded, gridOf, matrixOf, biasOf}
 use Rattle.lut_meaning.specs.Lut.{byType, lutOf}
@@ -20,8 +21,18 @@ use Rattle.lut_meaning.specs.Parts.{runsChecked, curvesOf, matrixChecked}
 use Rattle.lut_meaning.specs.Checks.{ended}
 use Rattle.text_meaning.specs.Mluc.{even, recordAt, recordsFrom, recordsAsked, recordsIn, wordsIn}
 use Rattle.text_meaning.specs.Text.{slottedOf, mlucOf, byType as stringByType, stringOf}
-use Rattle.demands.specs.Cases.{Holds, cases}
+use Rattle.demands.specs.Cases.{Holds, bookAnswer, bookTwoSlots, cases}
+
+-- those of the book walk, which break wrong readers
+pub record BookWalk : Type 0 where
+  pub answer : Holds bookAnswer
+  pub two-slots : Holds bookTwoSlots
+
+pub book-walk : BookWalk
+unfolding Holds lutOf byType isMft isWide abmOf checkedOf recordedOf valueFrom colourTableOf product runsChecked curvesOf matrixChecked ended present deviceChannels spaceChannels aCurves mCurves bCurves planOf recordsNeeded gridOf matrixOf biasOf bytesAt wordsAt runAt curveAtOffset aligned recordsOf curveOf curvOf paraOf divides parameterCount sizeOf stepOf wordsOf signatureOf
+book-walk = record { answer = refl; two-slots = (refl, refl) }
 
 pub claim : Each Holds cases
 unfolding Each Holds signedParameters numbersIn trcOf answerOf lutOf byType isMft isWide abmOf checkedOf recordedOf valueFrom colourTableOf clutOf shapeOf some partials product pointOf runsChecked curvesOf matrixChecked ended present deviceChannels spaceChannels aCurves mCurves bCurves planOf recordsNeeded gridOf matrixOf biasOf bytesAt wordsAt runAt curveAtOffset aligned recordsOf curveOf curvOf paraOf divides parameterCount sizeOf stepOf wordsOf stringOf stringByType slottedOf mlucOf recordsIn recordsAsked recordsFrom recordAt even wordsIn signatureOf
-claim = (refl, (refl, ((refl, refl), ((refl, refl), ((refl, refl), (refl, (refl, ((refl, refl), ((refl, refl), (refl, (refl, (refl, (refl, ((refl, refl), ((refl, refl), (refl, ((refl, refl), ((refl, refl), (refl, (refl, tt))))))))))))))))))))
+claim =
+    (refl, (refl, ((refl, refl), ((refl, refl), ((refl, refl), (refl, (refl, ((refl, refl), ((refl, refl), (refl, (refl, (book-walk .answer, (refl, ((refl, refl), (book-walk .two-slots, (refl, ((refl, refl), ((refl, refl), (refl, (refl, tt))))))))))))))))))))

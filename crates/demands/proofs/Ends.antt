@@ -1,12 +1,10 @@
--- How a call ends: a refusal has one of the eighteen numbers, and only a value changes the lent slots.
+-- How a call ends: a refusal has the number of one, and only a value changes the lent slots.
 -- Assumes nothing.
-use Prim.Native.Nat.{ℕ, _≤_}
-use native.Mathlib.Omega.{arith}
+use Prim.Native.Nat.{ℕ}
 use mathlib.Core.Path.{_≡_, refl, ap, subst, _∙_}
 use mathlib.Core.List.{List}
-use Rattle.fields.specs.Refusals.{refusalNumber}
+use Rattle.fields.specs.Refusals.{refusalNumber, IsRefusal}
 use Rattle.fields.specs.declared.Refusal.{Refusal}
-use Rattle.fields.specs.declared.Refusal.the-variants.{PastProfile, TagTooShort, OtherLut, GridOverflow, GridZero, GridTooLarge, GridDimension, EntrySize, OtherCurve, TooManyEntries, CurveRunsOut, FunctionType, ZeroDivision, TooFewSlots, BadTable, GridOverLimit, BadChad, LastPoint}
 use Rattle.curve_meaning.specs.declared.CurveAnswer.{CurveAnswer}
 use Rattle.lut_meaning.specs.Answer.{State, mft, abm, absent as State·absent, refused as State·refused, stateFrom, slotsWith as Lut·slotsWith}
 use Rattle.lut_meaning.specs.declared.LutAnswer.{LutAnswer}
@@ -23,32 +21,15 @@ use Rattle.demands.specs.Readers.{Small, chad, sig, date, meas, view, xy
 
 -- ---- numbers of refusals
 
-numbered-so : (why : Refusal) → (1 ≤ refusalNumber why) × (refusalNumber why ≤ 18)
-numbered-so PastProfile = (omega arith, omega arith)
-numbered-so TagTooShort = (omega arith, omega arith)
-numbered-so OtherLut = (omega arith, omega arith)
-numbered-so GridOverflow = (omega arith, omega arith)
-numbered-so GridZero = (omega arith, omega arith)
-numbered-so GridTooLarge = (omega arith, omega arith)
-numbered-so GridDimension = (omega arith, omega arith)
-numbered-so EntrySize = (omega arith, omega arith)
-numbered-so OtherCurve = (omega arith, omega arith)
-numbered-so TooManyEntries = (omega arith, omega arith)
-numbered-so CurveRunsOut = (omega arith, omega arith)
-numbered-so FunctionType = (omega arith, omega arith)
-numbered-so ZeroDivision = (omega arith, omega arith)
-numbered-so TooFewSlots = (omega arith, omega arith)
-numbered-so BadTable = (omega arith, omega arith)
-numbered-so GridOverLimit = (omega arith, omega arith)
-numbered-so BadChad = (omega arith, omega arith)
-numbered-so LastPoint = (omega arith, omega arith)
+numbered-so : (why : Refusal) → IsRefusal (refusalNumber why)
+numbered-so why = record { why = why; has = refl }
 
 -- an outcome that is no refusal, or has the number of one
 abbrev Numbered : Outcome → Type 0
 Numbered value = Unit
 Numbered default = Unit
 Numbered absent = Unit
-Numbered (refused n) = (1 ≤ n) × (n ≤ 18)
+Numbered (refused n) = IsRefusal n
 
 small-numbered : (s : Small) (x : SmallResult s) → Numbered (smallOutcome (smallNumbers s x))
 small-numbered chad (ChadAnswer.Value m) = tt
@@ -91,7 +72,7 @@ result-numbered string TextAnswer.Absent = tt
 result-numbered string (TextAnswer.Refused why) = numbered-so why
 result-numbered (small s) x = small-numbered s x
 
-pub numbered : (l : Library) (r : Reader) (c : Call) (n : ℕ) → ends l r c ≡ refused n → (1 ≤ n) × (n ≤ 18)
+pub numbered : (l : Library) (r : Reader) (c : Call) (n : ℕ) → ends l r c ≡ refused n → IsRefusal n
 numbered l r c n e = subst Numbered e (result-numbered r (l .returns r c))
 
 -- ---- slots

@@ -28,7 +28,7 @@ use Rattle.small_meaning.specs.Answer.{Answer as Small·Answer}
 use Rattle.small_meaning.proofs.Zone.{chad-alone, sig-alone, view-alone, xyz-alone, cicp-alone, meas-alone, date-alone}
 use Rattle.small_meaning.proofs.Inside.{chad-inside, sig-inside, view-inside, xyz-inside, cicp-inside, meas-inside, date-inside}
 use Rattle.demands.specs.Readers.{Small, chad, sig, date, meas, view, xyz, cicp, lut, trc, string, small, Call, smallOf, meaning, slotsAfter, value, smallOutcome, Library, ends, Promised, answered}
-use Rattle.demands.specs.Demands.{tag, curveTag, curveAt, recordIn, CurveInside, NoMatrix, MatrixInside, NoGrid, GridInside, AbmInside, MftInside, LocalizedInside, TextInside, FieldsInside, SameFields, onProfile, Demand1}
+use Rattle.demands.specs.Demands.{tag, curveTag, ElementInside, curveAt, recordIn, CurveInside, NoMatrix, MatrixThere, NoGrid, GridThere, AbmInside, MftInside, LocalizedInside, TextInside, FieldsInside, SameFields, onProfile, Demand1}
 use Rattle.demands.proofs.Ends.{Spares, numbered, ends-so, leaves-spared}
 
 -- ---- a lone curve, by the words of its record
@@ -71,11 +71,11 @@ localized t k words r =
 
 -- ---- the parts of a lookup table, as they are told
 
-matrix-of : (t : List ℕ) (a : Lut·Answer) → MatrixTold t (a .matrix) (a .bias) → NoMatrix t a ⊎ MatrixInside t a
+matrix-of : (t : List ℕ) (a : Lut·Answer) → MatrixTold t (a .matrix) (a .bias) → NoMatrix t a ⊎ MatrixThere t a
 matrix-of t a (inl m) = inl record { not-there = m .0; matrix-is = m .1; bias-is = m .2 }
 matrix-of t a (inr m) = inr record { there = m .0; in-tag = m .1; matrix-is = m .2; bias-is = m .3 }
 
-grid-of : (t : List ℕ) (a : Lut·Answer) (f : Abm) (table : Table) → f .start ≡ table .start → f .bytes ≡ lengthOf table → f .size ≡ table .size → f .start + f .bytes ≤ length t → GridTold t table (a .grid) → NoGrid t a f ⊎ GridInside t a f
+grid-of : (t : List ℕ) (a : Lut·Answer) (f : Abm) (table : Table) → f .start ≡ table .start → f .bytes ≡ lengthOf table → f .size ≡ table .size → f .start + f .bytes ≤ length t → GridTold t table (a .grid) → NoGrid t a f ⊎ GridThere t a f
 grid-of t a f table start bytes size within (inl m) =
     inl record { not-there = m .0; grid-is = m .2; start-is = start ∙ rw (m .1); bytes-are = bytes ∙ rw (m .1) (omega arith); size-is = size ∙ rw (m .1) }
 grid-of t a f table start bytes size within (inr m) =
@@ -126,7 +126,7 @@ module _ (l : Library) (p : Promised l) where
         index-in-table = λ index channel valid. i .1 .entry-in-table index channel (valid .0) (valid .1);
       }
 
-  curve-inside : (walk : Walk) (c : Call) (words : List ℕ) (consumed : ℕ) → answered l (trc walk) c ≡ Curve·Answer.value words consumed → (dataEnd words ≤ length (curveTag c)) × (c .entry + c .size ≤ length (c .profile))
+  curve-inside : (walk : Walk) (c : Call) (words : List ℕ) (consumed : ℕ) → answered l (trc walk) c ≡ Curve·Answer.value words consumed → (dataEnd words ≤ length (curveTag c)) × ElementInside c
   curve-inside walk c words consumed h =
       let i = accepted-inside walk (c .entries) (c .profile) (c .entry) (c .size) words consumed (sym (p .answers (trc walk) c) ∙ h) in
       (omega (arith, ap dataEnd (i .curve .record-is) ∙ data-end (i .curve .shape), i .curve-in-tag), i .tag-in-profile)

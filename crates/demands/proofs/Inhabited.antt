@@ -1,5 +1,5 @@
 -- There is a library that keeps the contracts, that of specs/Kept.antt, so no demand holds for want of one. The result that stands for an answer
--- has its numbers: a meaning refuses with the eighteen numbers only, and its values have as many numbers as the code's.
+-- has its numbers: a meaning refuses with numbers of refusals only, and its values have as many numbers as the code's.
 -- Assumes nothing.
 use Prim.Native.Nat.{ℕ, _+_, _-_, _*_, _/_}
 use mathlib.Core.Path.{_≡_, refl, ap, subst}
@@ -10,7 +10,7 @@ use lib.ListN.{length, getD, drop}
 use Rattle.fields.specs.Checked.{Checked, good, bad}
 use Rattle.fields.specs.Bytes.{u32At, bytesAt, wordsAt}
 use Rattle.fields.specs.Place.{tagAt, countedSize}
-use Rattle.fields.specs.Refusals.{refusalNumber}
+use Rattle.fields.specs.Refusals.{refusalNumber, pastProfile}
 use Rattle.fields.specs.Tag.{signatureOf}
 use Rattle.fields.specs.declared.Kind.the-variants.{Curv, Para, Text, Mluc, Desc, Sf32}
 use Rattle.fields.proofs.Choice.{each}
@@ -45,18 +45,23 @@ use Rattle.small_meaning.specs.Layout.{nineNumbers, signatureIn, dateBytes, mea
 use Rattle.small_meaning.specs.Order.{answerTo as Small·answerTo}
 use Rattle.small_meaning.specs.Small.{matrixOf, chadOf, windowOf, tripleOf}
 use Rattle.small_meaning.specs.declared.Found.{Found}
-use Rattle.lut_view_meaning.specs.Answer.{Answer, inNumbers as Table·inNumbers}
+use Rattle.lut_view_meaning.specs.Answer.{Answer, inNumbers as View·inNumbers, resultFrom as View·resultFrom}
 use Rattle.lut_view_meaning.specs.View.{tableBy, entryOf}
 use Rattle.demands.specs.Readers.{Small, chad, sig, date, meas, view, xyz, cicp, Reader, lut, trc, string, small, Call, smallNumbers, smallOf, numbers, meaning, Promised}
 use Rattle.demands.specs.Demands.{Demand1, Demand2, Demand3}
-use Rattle.demands.specs.Kept.{smallResult, result, entryResult, kept}
+use Rattle.demands.specs.Kept.{smallResult, result, kept}
 use Rattle.demands.proofs.First.{demand1}
 use Rattle.demands.proofs.Second.{demand2}
 use Rattle.demands.proofs.Third.{demand3}
 
--- a refusal's number is one of the eighteen
+-- the number of a refusal, by the name that it has
 abbrev Known : ℕ → Type 0
 Known n = refusalNumber (nameOf n) ≡ n
+
+-- what is checked is good, or refused with such a number
+CheckedKnown : {A : Type 0} → Checked A → Type 0
+CheckedKnown (good a) = Unit
+CheckedKnown (bad n) = Known n
 
 -- ---- the small readers
 
@@ -64,7 +69,7 @@ Known n = refusalNumber (nameOf n) ≡ n
 Shown : Small → Small·Answer → Type 0
 Shown s a = smallNumbers s (smallResult s a) ≡ a
 
-by-order : (P : Small·Answer → Type 0) (f : Found) (short other this : Small·Answer) → P short → P (Small·Answer.refused 1) → P other → P this → P (Small·answerTo f short other this)
+by-order : (P : Small·Answer → Type 0) (f : Found) (short other this : Small·Answer) → P short → P (Small·Answer.refused pastProfile) → P other → P this → P (Small·answerTo f short other this)
 unfolding Small·answerTo
 by-order P Found.Short short other this a b c d = a
 by-order P Found.Past short other this a b c d = b
@@ -96,15 +101,10 @@ small-shown cicp p at size = by-order (Shown cicp) _ _ _ _ refl refl refl refl
 
 -- ---- the tone curve
 
--- what is seen is a curve, or refused with a known number
-SeenKnown : Checked Shape → Type 0
-SeenKnown (good s) = Unit
-SeenKnown (bad n) = Known n
-
-curve-known : (limit : ℕ) (t : List ℕ) → SeenKnown (curveOf limit t)
-unfolding SeenKnown curveOf curvOf paraOf
+curve-known : (limit : ℕ) (t : List ℕ) → CheckedKnown (curveOf limit t)
+unfolding CheckedKnown curveOf curvOf paraOf
 curve-known limit t =
-    let P = SeenKnown in
+    let P = CheckedKnown {A = Shape} in
     let n = entryCount t in
     let type = functionType t in
     each P (ltb (length t) 12) _ _ (λ _. refl)
@@ -118,14 +118,14 @@ curve-known limit t =
     (λ _. refl)))
 
 trc-shown : (walk : Walk) (limit : ℕ) (p : List ℕ) (at size : ℕ) → Curve·inNumbers (Curve·resultFrom (trcOf walk limit p at size)) ≡ trcOf walk limit p at size
-unfolding trcOf SeenKnown answerOf wordsOf
+unfolding trcOf CheckedKnown answerOf wordsOf
 trc-shown walk limit p at size =
     let P : Curve·Answer → Type 0 = λ a. Curve·inNumbers (Curve·resultFrom a) ≡ a in
     each P (ltb (length p) (at + 4)) _ _ (λ _. refl)
     (λ _. each P (leb 1 size && ltb size 12) _ _ (λ _. refl)
     (λ _. each P (ltb (length p) (at + size)) _ _ (λ _. refl) (λ _. by (curveOf limit (Curve·tagOf p at size)) (curve-known limit (Curve·tagOf p at size)))))
   where
-    by : (x : Checked Shape) → SeenKnown x → Curve·inNumbers (Curve·resultFrom (answerOf walk 12 x)) ≡ answerOf walk 12 x
+    by : (x : Checked Shape) → CheckedKnown x → Curve·inNumbers (Curve·resultFrom (answerOf walk 12 x)) ≡ answerOf walk 12 x
     by (good empty) k = refl
     by (good (table n)) k = refl
     by (good (para type ps)) k = refl
@@ -140,42 +140,38 @@ Stands s = stateFrom (answerTo s) ≡ s
 abbrev StandsOf : Lut·Answer → Type 0
 StandsOf a = Stands (a .state)
 
-JudgedKnown : Checked Unit → Type 0
-JudgedKnown (good _) = Unit
-JudgedKnown (bad n) = Known n
+refused-known : (A : Type 0) (n : ℕ) → CheckedKnown {A = A} (bad n) → Stands (State.refused n)
+unfolding CheckedKnown Stands
+refused-known A n k = ap State.refused k
 
-or-refused : (j : Checked Unit) (a : Lut·Answer) → JudgedKnown j → StandsOf a → StandsOf (orRefused j a)
-unfolding JudgedKnown Stands
+or-refused : (j : Checked Unit) (a : Lut·Answer) → CheckedKnown j → StandsOf a → StandsOf (orRefused j a)
+unfolding Stands
 or-refused (good _) a k h = h
-or-refused (bad n) a k h = ap State.refused k
+or-refused (bad n) a k h = refused-known Unit n k
 
-both : (i j : Checked Unit) → JudgedKnown i → JudgedKnown j → JudgedKnown (andThen i j)
-unfolding JudgedKnown
+both : (i j : Checked Unit) → CheckedKnown i → CheckedKnown j → CheckedKnown (andThen i j)
+unfolding CheckedKnown
 both (good _) j a b = b
 both (bad n) j a b = a
 
-entry-known : (limit : ℕ) (t : List ℕ) (at : ℕ) → SeenKnown (curveAtOffset limit t at)
-unfolding SeenKnown curveAtOffset
-entry-known limit t at = each SeenKnown (ltb (length t) (at + 12)) _ _ (λ _. refl) (λ _. curve-known limit (drop at t))
+entry-known : (limit : ℕ) (t : List ℕ) (at : ℕ) → CheckedKnown (curveAtOffset limit t at)
+unfolding CheckedKnown curveAtOffset
+entry-known limit t at = each CheckedKnown (ltb (length t) (at + 12)) _ _ (λ _. refl) (λ _. curve-known limit (drop at t))
 
-run-known : (walk : Walk) (limit : ℕ) (t : List ℕ) (n at : ℕ) → JudgedKnown (ended (runAt walk limit t at n .end))
-unfolding JudgedKnown SeenKnown ended
+run-known : (walk : Walk) (limit : ℕ) (t : List ℕ) (n at : ℕ) → CheckedKnown (ended (runAt walk limit t at n .end))
+unfolding CheckedKnown ended
 run-known walk limit t =
-    run-induct walk limit t (λ at n r. JudgedKnown (ended (r .end))) (λ at. tt) (λ at n m e. subst SeenKnown e (entry-known limit t at)) (λ at n s e ih. ih)
+    run-induct walk limit t (λ at n r. CheckedKnown (ended (r .end))) (λ at. tt) (λ at n m e. subst CheckedKnown e (entry-known limit t at)) (λ at n s e ih. ih)
 
-matrix-known : (t : List ℕ) → JudgedKnown (matrixChecked t)
-unfolding JudgedKnown matrixChecked
+matrix-known : (t : List ℕ) → CheckedKnown (matrixChecked t)
+unfolding CheckedKnown matrixChecked
 matrix-known t =
-    each JudgedKnown (eqb (matrixOffset t) 0) _ _ (λ _. tt) (λ _. each JudgedKnown (ltb (length t) (matrixOffset t + 48)) _ _ (λ _. refl) (λ _. tt))
+    each CheckedKnown (eqb (matrixOffset t) 0) _ _ (λ _. tt) (λ _. each CheckedKnown (ltb (length t) (matrixOffset t + 48)) _ _ (λ _. refl) (λ _. tt))
 
-ClutKnown : Checked Table → Type 0
-ClutKnown (good x) = Unit
-ClutKnown (bad n) = Known n
-
-clut-known : (t : List ℕ) → ClutKnown (clutIn t)
-unfolding ClutKnown clutIn clutOf shapeOf
+clut-known : (t : List ℕ) → CheckedKnown (clutIn t)
+unfolding CheckedKnown clutIn clutOf shapeOf
 clut-known t =
-    let P = ClutKnown in
+    let P = CheckedKnown {A = Table} in
     let x = tableAt t (clutOffset t) (gridAt t (clutOffset t) (inputs t)) (outputs t) in
     each P (eqb (clutOffset t) 0) _ _ (λ _. tt)
     (λ _. each P (ltb (length t) (x .start)) _ _ (λ _. refl)
@@ -188,17 +184,17 @@ clut-known t =
     (λ _. each P (ltb (length t) (x .start + lengthOf x)) _ _ (λ _. refl) (λ _. tt)))))))))
 
 abm-stands : (walk : Walk) (limit : ℕ) (t : List ℕ) (words : ℕ) → StandsOf (abmOf walk limit t words)
-unfolding Stands abmOf ClutKnown checkedOf runsChecked recordedOf valueFrom
+unfolding Stands abmOf checkedOf runsChecked recordedOf valueFrom
 abm-stands walk limit t words =
     each StandsOf (ltb 4 (inputs t) && ltb 4 (outputs t)) _ _ (λ _. refl)
     (λ _. or-refused (matrixChecked t) _ (matrix-known t) (by (clutIn t) (clut-known t)))
   where
-    by : (x : Checked Table) → ClutKnown x → StandsOf (withTable walk limit t words x)
+    by : (x : Checked Table) → CheckedKnown x → StandsOf (withTable walk limit t words x)
     by (good x) k =
         or-refused (runsChecked walk limit t (planOf t)) _
         (both _ _ (run-known walk limit t _ _) (both _ _ (run-known walk limit t _ _) (run-known walk limit t _ _)))
         (each StandsOf (ltb (words / recordWords) (recordsNeeded t)) _ _ (λ _. refl) (λ _. refl))
-    by (bad n) k = ap State.refused k
+    by (bad n) k = refused-known Table n k
 
 mft-stands : (points : ℕ) (t : List ℕ) → Stands (mftState (Mft·answerOf t (mftOf points t) .state))
 unfolding Stands Mft·answerOf mftOf numbersOf tablesOf
@@ -256,7 +252,7 @@ shown (trc walk) c = trc-shown walk (c .entries) (c .profile) (c .entry) (c .siz
 shown string c = text-shown (c .profile) (c .entry) (c .size) (length (c .slots))
 shown (small s) c = small-shown s (c .profile) (c .entry) (c .size)
 
-told-back : (a : Answer) → Table·inNumbers (entryResult a) ≡ a
+told-back : (a : Answer) → View·inNumbers (View·resultFrom a) ≡ a
 told-back (Answer.value n) = refl
 told-back Answer.absent = refl
 

@@ -28,12 +28,12 @@ use Rattle.lut_view_meaning.specs.View.{numbersOf, tableBy, entryOf}
 use Rattle.lut_view_meaning.specs.declared.TableNumbers.{TableNumbers}
 use Rattle.lut_view_meaning.proofs.Any.{invalid-absent}
 use Rattle.lut_view_meaning.proofs.Conforms.{abm-colours, wide-colours, narrow-colours}
-use Rattle.lut_view_meaning.proofs.Shows.{Shows as TableShows, abm-shows, mft-shows}
+use Rattle.lut_view_meaning.proofs.Shows.{Shows as View·Shows, abm-shows, mft-shows}
 use Rattle.text_meaning.specs.Standard.{ReadLocalized}
 use Rattle.text_meaning.proofs.Conforms as Text
 use Rattle.text_meaning.proofs.Unique.{unique as text-unique}
 use Rattle.demands.specs.Readers.{Small, chad, sig, date, meas, view, xyz, cicp, Reader, lut, trc, string, small, Call, SmallResult, smallNumbers, smallOf, Result, Numbers, numbers, meaning, Library, Promised, answered}
-use Rattle.demands.specs.Demands.{tag, bytes, InProfile, reader, shown, Shows, Demand2}
+use Rattle.demands.specs.Demands.{tag, element, ElementInside, reader, shown, Shows, Demand2}
 
 -- ---- one call, one answer: a result is determined by its numbers
 
@@ -60,17 +60,17 @@ module _ (l : Library) (p : Promised l) where
   -- ---- lookup tables
 
   module _ (walk : Walk) (c : Call) (b : Bytes (c .profile)) (f : Abm) (h : answered l (lut walk) c .state ≡ abm f) (few : 1 ≤ f .size → f .inputs ≤ 16) where
-    abm-written : InProfile c × PartsAs (bytes c) (answered l (lut walk) c)
+    abm-written : ElementInside c × PartsAs (element c) (answered l (lut walk) c)
     abm-written =
         let w = profile-parts (c .entries) (c .points) (c .profile) b (c .entry) (c .size) walk (length (c .slots)) f (sym (lut-state walk c) ∙ h) few in
-        (w .0, subst (PartsAs (bytes c)) (sym (p .answers (lut walk) c)) (w .1))
+        (w .0, subst (PartsAs (element c)) (sym (p .answers (lut walk) c)) (w .1))
 
-    curves-written : PassesBy walk (l .leaves (lut walk) c) (f .a) (f .m) (f .b) → TagAs walk (c .entries) (bytes c) (answered l (lut walk) c) (c .slots) (l .leaves (lut walk) c)
+    curves-written : PassesBy walk (l .leaves (lut walk) c) (f .a) (f .m) (f .b) → TagAs walk (c .entries) (element c) (answered l (lut walk) c) (c .slots) (l .leaves (lut walk) c)
     curves-written pass =
         let w = profile-written (c .entries) (c .points) (c .profile) b (c .entry) (c .size) walk (length (c .slots)) f (sym (lut-state walk c) ∙ h) few (c .slots) (l .leaves (lut walk) c) refl (sym (p .leaves-so (lut walk) c)) pass in
-        subst (λ (a : Lut·Answer). TagAs walk (c .entries) (bytes c) a (c .slots) (l .leaves (lut walk) c)) (sym (p .answers (lut walk) c)) (w .1)
+        subst (λ (a : Lut·Answer). TagAs walk (c .entries) (element c) a (c .slots) (l .leaves (lut walk) c)) (sym (p .answers (lut walk) c)) (w .1)
 
-  mft-written : (walk : Walk) (c : Call) → Bytes (c .profile) → (f : Fields) → answered l (lut walk) c .state ≡ mft f → let matrix : List ℕ = answered l (lut walk) c .matrix in InProfile c × (Begins8 (c .points) (bytes c) f matrix ⊎ Begins16 (c .points) (bytes c) f matrix)
+  mft-written : (walk : Walk) (c : Call) → Bytes (c .profile) → (f : Fields) → answered l (lut walk) c .state ≡ mft f → let matrix : List ℕ = answered l (lut walk) c .matrix in ElementInside c × (Begins8 (c .points) (element c) f matrix ⊎ Begins16 (c .points) (element c) f matrix)
   mft-written walk c b f h =
       let e = p .answers (lut walk) c in
       let w = profile-written-mft (c .entries) (c .points) (c .profile) b (c .entry) (c .size) walk (length (c .slots)) f (sym (lut-state walk c) ∙ h) in
@@ -78,7 +78,7 @@ module _ (l : Library) (p : Promised l) where
 
   -- ---- the view
 
-  shows : (t : List ℕ) (n : TableNumbers) (table : Table) (bytes : ℕ) → TableShows t n table bytes → Shows l t n table bytes
+  shows : (t : List ℕ) (n : TableNumbers) (table : Table) (bytes : ℕ) → View·Shows t n table bytes → Shows l t n table bytes
   shows t n table bytes h index channel valid =
       (p .reads-so t n index channel ∙ h .entry-is index channel (valid .0) (valid .1), h .entry-in-table index channel (valid .0) (valid .1))
 
@@ -92,12 +92,12 @@ module _ (l : Library) (p : Promised l) where
       shows _ _ _ _ (mft-shows walk (c .entries) (c .points) (c .profile) (c .entry) (c .size) (length (c .slots)) low f (sym (lut-state walk c) ∙ h))
 
   -- its colours
-  shows-colours : (c : Call) (state : State) (grid : List ℕ) (outputs : ℕ) (ns : List ℕ) → ShowsColours (λ point channel. entryOf (bytes c) (tableBy (bytes c) (numbersOf state)) point channel) grid outputs ns → ShowsColours (shown l c state) grid outputs ns
-  shows-colours c state grid outputs ns h colour k point channel i low = p .reads-so (bytes c) (numbersOf state) point channel ∙ h colour k point channel i low
+  shows-colours : (c : Call) (state : State) (grid : List ℕ) (outputs : ℕ) (ns : List ℕ) → ShowsColours (λ point channel. entryOf (element c) (tableBy (element c) (numbersOf state)) point channel) grid outputs ns → ShowsColours (shown l c state) grid outputs ns
+  shows-colours c state grid outputs ns h colour k point channel i low = p .reads-so (element c) (numbersOf state) point channel ∙ h colour k point channel i low
 
-  shows-clut : (c : Call) (state : State) {offset i o : ℕ} (x : ClutAt (bytes c) offset i o) → ShowsClut (λ point channel. entryOf (bytes c) (tableBy (bytes c) (numbersOf state)) point channel) x → ShowsClut (shown l c state) x
+  shows-clut : (c : Call) (state : State) {offset i o : ℕ} (x : ClutAt (element c) offset i o) → ShowsClut (λ point channel. entryOf (element c) (tableBy (element c) (numbersOf state)) point channel) x → ShowsClut (shown l c state) x
   unfolding ShowsClut
-  shows-clut c state (no-clut e) h = λ point channel. p .reads-so (bytes c) (numbersOf state) point channel ∙ h point channel
+  shows-clut c state (no-clut e) h = λ point channel. p .reads-so (element c) (numbersOf state) point channel ∙ h point channel
   shows-clut c state {o = o} (the-clut n x s z) h = shows-colours c state (x .grid) o (numbersIn (x .entries)) h
 
   -- ---- the small readers
@@ -105,11 +105,11 @@ module _ (l : Library) (p : Promised l) where
   abbrev ofTag : Call → List ℕ → ℕ → ℕ → Call
   ofTag c q entry size = record { profile = q; entry = entry; size = size; entries = c .entries; points = c .points; slots = c .slots }
 
-  small-read : {A : Type 0} (s : Small) (element : ℕ → A → List ℕ) (tells : A → List ℕ) (Fit : A → Type 0) → WrittenRead (smallOf s) element tells Fit → (c : Call) → WrittenRead (reader l c s) element tells Fit
-  small-read s element tells Fit h c q entry size reserved x rest f i e = p .answers (small s) (ofTag c q entry size) ∙ h q entry size reserved x rest f i e
+  small-read : {A : Type 0} (s : Small) (write : ℕ → A → List ℕ) (tells : A → List ℕ) (Fit : A → Type 0) → WrittenRead (smallOf s) write tells Fit → (c : Call) → WrittenRead (reader l c s) write tells Fit
+  small-read s write tells Fit h c q entry size reserved x rest f i e = p .answers (small s) (ofTag c q entry size) ∙ h q entry size reserved x rest f i e
 
-  small-written : {A : Type 0} (s : Small) (element : ℕ → A → List ℕ) (tells : A → List ℕ) (Asked : List ℕ → ℕ → ℕ → Type 0) → ReadWritten (smallOf s) element tells Asked → (c : Call) → ReadWritten (reader l c s) element tells Asked
-  small-written s element tells Asked h c q entry size ws b a v = h q entry size ws b a (sym (p .answers (small s) (ofTag c q entry size)) ∙ v)
+  small-written : {A : Type 0} (s : Small) (write : ℕ → A → List ℕ) (tells : A → List ℕ) (Asked : List ℕ → ℕ → ℕ → Type 0) → ReadWritten (smallOf s) write tells Asked → (c : Call) → ReadWritten (reader l c s) write tells Asked
+  small-written s write tells Asked h c q entry size ws b a v = h q entry size ws b a (sym (p .answers (small s) (ofTag c q entry size)) ∙ v)
 
   pub demand2 : Demand2 l
   demand2 =

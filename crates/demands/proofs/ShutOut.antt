@@ -4,23 +4,26 @@
 use Prim.Native.Nat.{ℕ, _+_}
 use native.Mathlib.Omega.{arith}
 use mathlib.Core.Path.{_≡_, refl, ap, _∙_}
-use mathlib.Core.List.{List, [], _∷_, _++_}
+use mathlib.Core.List.{List, [], _∷_}
 use mathlib.Core.Logic.{inl}
-use lib.ListN.{length, getD, drop, replicate}
+use lib.ListN.{getD, drop, replicate}
+use Rattle.icc.specs.Each.{Each}
 use Rattle.fields.proofs.Never.{never}
 use Rattle.icc.specs.Curves.{sampled, parametric, curveElement, curveType, parametricCurveType, type0, encoded, parameters, Defined}
 use Rattle.icc.specs.Elements.{Stands, aToB, Head, headElement, PlacedCurve, CurvesFrom, no-curves, some-curves, no-matrix, no-clut, LutParts, LutCurves}
-use Rattle.icc.specs.Numbers.{each16, each32, Each32}
+use Rattle.icc.specs.Numbers.{each16, each32}
 use Rattle.icc.specs.Small.{eachXyz, xyzType}
+use Rattle.fields.specs.House.{houseEntries}
+use Rattle.fields.specs.Refusals.{tooFewSlots}
 use Rattle.fields.specs.Tag.{signatureOf}
 use Rattle.curve_meaning.specs.Cases.{none, two}
-use Rattle.curve_meaning.specs.Shape.{Shape, empty, table, para, wordsOf}
+use Rattle.curve_meaning.specs.Shape.{Shape, empty, table, para, recordWords, wordsOf}
 use Rattle.curve_meaning.specs.Standard.{Fits, recordTold, Tag}
 use Rattle.curve_meaning.specs.declared.Walk.the-variants.{Crate, Book}
-use Rattle.lut_run_meaning.specs.Run.{aligned, Each}
+use Rattle.lut_run_meaning.specs.Run.{aligned}
 use Rattle.lut_run_meaning.specs.Standard.{Passes, recordsTold}
 use Rattle.lut_meaning.specs.Answer.{State, mft, abm, absent as State·absent, refused as State·refused, stateFrom, Answer as Lut·Answer}
-use Rattle.lut_meaning.specs.Cases.{tag as threeCurves, slots}
+use Rattle.lut_meaning.specs.Cases.{tag as threeCurves}
 use Rattle.lut_meaning.specs.Layout.{present, deviceChannels, spaceChannels, aCurves, mCurves, bCurves, recordsNeeded}
 use Rattle.lut_meaning.specs.Standard.{MatrixTaken, ClutFits, answerTold, recordsWritten, PartsTaken, CurvesTaken}
 use Rattle.lut_meaning.specs.declared.LutAnswer.{LutAnswer}
@@ -28,10 +31,10 @@ use Rattle.lut_run_meaning.proofs.Conforms.{aligned-next}
 use Rattle.lut_meaning.proofs.Conforms.{written-records}
 use Rattle.small_meaning.specs.Standard.{SomeXyz}
 use Rattle.demands.specs.Readers.{lut, Call, Library, Promised, answered}
-use Rattle.demands.specs.Demands.{curveAt, Demand1, Demand2}
-use Rattle.demands.specs.Cases.{Holds, call, lone}
+use Rattle.demands.specs.Demands.{inFront, curveAt, Demand1, Demand2}
+use Rattle.demands.specs.Cases.{Holds, lone, withSlotsFor}
 use Rattle.demands.specs.Wrong.{refusesAll, alwaysDefault, alwaysIdentity, unwritten, copied, madeUp, tooEarly, zeroed, copies, oneCurve, ShutOut}
-use Rattle.demands.proofs.Cases.{claim}
+use Rattle.demands.proofs.Cases.{book-walk}
 use Rattle.demands.proofs.Ends.{ends-so}
 
 refuses-all : (l : Library) → Demand2 (refusesAll l) → ⊥
@@ -51,7 +54,7 @@ abbrev black : List ℕ
 black = 0x58 ∷ 0x59 ∷ 0x5a ∷ 0x20 ∷ replicate 16 0
 
 always-default : (l : Library) → Demand2 (alwaysDefault l) → ⊥
-unfolding Each32 xyzType eachXyz
+unfolding Each xyzType eachXyz
 always-default l d =
     let x : SomeXyz = record { first = record { X = 0; Y = 0; Z = 0 }; others = [] } in
     let e = d .xyz-read (lone [] 0) black 0 20 0 x [] (omega arith, (omega arith, (omega arith, tt))) (omega arith) refl in
@@ -111,8 +114,8 @@ parts-taken =
       clut-fits = tt;
     }
 
-curves-taken : CurvesTaken Book 4096 curves
-unfolding Each Fits Passes Each32 parameters Defined
+curves-taken : CurvesTaken Book houseEntries curves
+unfolding Each Fits Passes parameters Defined
 curves-taken =
     record {
       a-fit = tt;
@@ -124,36 +127,34 @@ curves-taken =
     }
 
 -- how each library must answer it, and what it must leave
-abbrev Said : Library → Type 0
-Said l =
-    let c : Call = call threeCurves 72 (slots 3) in
-    let records : List ℕ = recordsWritten curves in
-    (answered l (lut Book) c ≡ answerTold parts) × (l .leaves (lut Book) c ≡ records ++ drop (length records) (c .slots))
+record Said (l : Library) : Type 0 where
+  answer : answered l (lut Book) (withSlotsFor 3) ≡ answerTold parts
+  slots : l .leaves (lut Book) (withSlotsFor 3) ≡ inFront (recordsWritten curves) (withSlotsFor 3 .slots)
 
 three-said : (l : Library) → Demand2 l → Said l
 three-said l d =
-    d .abm-read Book (call threeCurves 72 (slots 3)) record { parts = parts; curves = curves } (omega arith) (omega arith) parts-taken curves-taken (omega arith)
+    let e = d .abm-read Book (withSlotsFor 3) record { parts = parts; curves = curves } (omega arith) (omega arith) parts-taken curves-taken (omega arith) in
+    record { answer = e .0; slots = e .1 }
 
 -- the first word would be a 7 that was lent
 slots-unwritten : (l : Library) → Demand2 (unwritten l) → ⊥
 unfolding recordsTold recordTold
 slots-unwritten l d =
-    let e : _≡_ {A = ℕ} 7 0 = ap (λ (ws : List ℕ). getD ws 0 0) (three-said (unwritten l) d .1) in
+    let e : _≡_ {A = ℕ} 7 0 = ap (λ (ws : List ℕ). getD ws 0 0) (three-said (unwritten l) d .slots) in
     omega (arith, e)
 
 -- the second record would start where the first does
 first-copied : (l : Library) → Demand2 (copied l) → ⊥
 unfolding copies recordsNeeded present deviceChannels spaceChannels aCurves mCurves bCurves recordsTold recordTold signatureOf
 first-copied l d =
-    let read = written-records threeCurves parts parts-taken Book 4096 curves curves-taken in
-    let e : _≡_ {A = ℕ} 44 56 = ap (λ (ws : List ℕ). getD ws 11 0) (simp read at (three-said (copied l) d .1)) in
+    let read = written-records threeCurves parts parts-taken Book houseEntries curves curves-taken in
+    let e : _≡_ {A = ℕ} 44 56 = ap (λ (ws : List ℕ). getD ws (recordWords + 1) 0) (simp read at (three-said (copied l) d .slots)) in
     omega (arith, e)
 
 -- one B curve would be three
 count-made-up : (l : Library) → Demand2 (madeUp l) → ⊥
 count-made-up l d =
-    let c : Call = call threeCurves 72 (slots 3) in
-    by (l .returns (lut Book) c .answer) (ap (λ (a : Lut·Answer). a .state) (three-said (madeUp l) d .0))
+    by (l .returns (lut Book) (withSlotsFor 3) .answer) (ap (λ (a : Lut·Answer). a .state) (three-said (madeUp l) d .answer))
   where
     curvesIn : State → ℕ
     curvesIn (abm f) = f .b
@@ -169,12 +170,12 @@ count-made-up l d =
 
 -- with two slots the call is refused, and the first word would be that of a record
 written-too-early : (l : Library) → Promised l → Demand1 (tooEarly l) → ⊥
-unfolding recordsTold recordTold Each Holds
+unfolding recordsTold recordTold Holds
 written-too-early l p d =
-    let c : Call = call threeCurves 72 (slots 2) in
-    let refused-14 = ends-so l p (lut Book) c ∙ claim .1 .1 .1 .1 .1 .1 .1 .1 .1 .1 .1 .1 .1 .1 .0 .0 in
-    let read = written-records threeCurves parts parts-taken Book 4096 curves curves-taken in
-    let e : _≡_ {A = ℕ} 0 7 = ap (λ (ws : List ℕ). getD ws 0 0) (simp read at (d .refusal-leaves-slots (lut Book) c 14 refused-14)) in
+    let c : Call = withSlotsFor 2 in
+    let refused-so = ends-so l p (lut Book) c ∙ book-walk .two-slots .0 in
+    let read = written-records threeCurves parts parts-taken Book houseEntries curves curves-taken in
+    let e : _≡_ {A = ℕ} 0 7 = ap (λ (ws : List ℕ). getD ws 0 0) (simp read at (d .refusal-leaves-slots (lut Book) c tooFewSlots refused-so)) in
     omega (arith, e)
 
 -- the second word of a record tells where its data start, 12 bytes behind the curve's offset
@@ -186,10 +187,10 @@ start-told start (para type ps) = refl
 
 -- so it is no zero
 records-zeroed : (l : Library) → Promised l → Demand1 (zeroed l) → ⊥
-unfolding Each Holds recordsNeeded present deviceChannels spaceChannels aCurves mCurves bCurves signatureOf
+unfolding Holds recordsNeeded present deviceChannels spaceChannels aCurves mCurves bCurves signatureOf
 records-zeroed l p d =
-    let c : Call = call threeCurves 72 (slots 3) in
-    let said = p .answers (lut Book) c ∙ claim .1 .1 .1 .1 .1 .1 .1 .1 .1 .1 .1 .0 in
+    let c : Call = withSlotsFor 3 in
+    let said = p .answers (lut Book) c ∙ book-walk .answer in
     let first = d .abm-inside Book c _ (ap (λ (a : Lut·Answer). a .state) said) .curves-in-tag 0 (omega arith) in
     let e : 0 ≡ curveAt Book c 0 .at + 12 = ap (λ (ws : List ℕ). getD ws 1 0) (first .record-is) ∙ start-told _ (curveAt Book c 0 .shape) in
     omega (arith, e)

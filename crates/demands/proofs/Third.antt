@@ -10,6 +10,7 @@ use lib.Dec.{ltb}
 use lib.ListN.{length, drop, length-append}
 use lib.Seq.{drop-append-le}
 use borrow.Author.Tests.{ltb-true, ltb-false}
+use Rattle.fields.specs.Refusals.{tooManyEntries, tooFewSlots, tooManyPoints}
 use Rattle.fields.proofs.Never.{never}
 use Rattle.fields.proofs.Grow.{Grows}
 use Rattle.curve_meaning.specs.Answer.{Answer as Curve·Answer}
@@ -54,7 +55,7 @@ by-bytes (lut walk) c q = elim (lut-bytes walk (c .entries) (c .points) (c .prof
   | inr e ↦ inr e
 ]
 by-bytes (trc walk) c q = elim (curve-bytes walk (c .entries) (c .profile) q (c .entry) (c .size)) [
-  | inl s ↦ inl (inr (refl, ap curveOutcome (short walk (c .entries) (c .profile) (c .entry) (c .size) (s .four)), s .four, s .sized))
+  | inl s ↦ inl (inr record { tone-curve = refl; is-absent = ap curveOutcome (short walk (c .entries) (c .profile) (c .entry) (c .size) (s .four)); four = s .four; sized = s .sized })
   | inr (inl e) ↦ inl (inl (ap curveOutcome e))
   | inr (inr e) ↦ inr e
 ]
@@ -77,14 +78,14 @@ by-limit Loose answer low high h (inl e) = by (ltb low high) refl
     by false l = let same : high ≡ low = omega (arith, ltb-false low high l) in inr (ap answer same)
 
 by-limits : (r : Reader) (c : Call) (entries points : ℕ) → c .entries ≤ entries → c .points ≤ points → ByLimits c entries points (outcome r (meaning r c)) ⊎ (meaning r (withLimits entries points c) ≡ meaning r c)
-by-limits (lut walk) c entries points h k = elim (by-limit (Lut·Is 10) (λ n. lutOf walk n (c .points) (c .profile) (c .entry) (c .size) (length (c .slots))) (c .entries) entries h (lut-limit walk (c .entries) entries h (c .points) (c .profile) (c .entry) (c .size) (length (c .slots)))) [
+by-limits (lut walk) c entries points h k = elim (by-limit (Lut·Is tooManyEntries) (λ n. lutOf walk n (c .points) (c .profile) (c .entry) (c .size) (length (c .slots))) (c .entries) entries h (lut-limit walk (c .entries) entries h (c .points) (c .profile) (c .entry) (c .size) (length (c .slots)))) [
   | inl e ↦ inl (inl (e .0, ap lutOutcome (e .1)))
-  | inr e ↦ elim (by-limit (Lut·Is 16) (λ n. lutOf walk entries n (c .profile) (c .entry) (c .size) (length (c .slots))) (c .points) points k (lut-points walk entries (c .points) points k (c .profile) (c .entry) (c .size) (length (c .slots)))) [
+  | inr e ↦ elim (by-limit (Lut·Is tooManyPoints) (λ n. lutOf walk entries n (c .profile) (c .entry) (c .size) (length (c .slots))) (c .points) points k (lut-points walk entries (c .points) points k (c .profile) (c .entry) (c .size) (length (c .slots)))) [
     | inl f ↦ inl (inr (f .0, ap lutOutcome (ap (λ (a : Lut·Answer). a .state) (sym e) ∙ f .1)))
     | inr f ↦ inr (f ∙ e)
   ]
 ]
-by-limits (trc walk) c entries points h k = elim (by-limit (Curve·Is 10) (λ n. trcOf walk n (c .profile) (c .entry) (c .size)) (c .entries) entries h (curve-limit walk (c .entries) entries (c .profile) (c .entry) (c .size) h)) [
+by-limits (trc walk) c entries points h k = elim (by-limit (Curve·Is tooManyEntries) (λ n. trcOf walk n (c .profile) (c .entry) (c .size)) (c .entries) entries h (curve-limit walk (c .entries) entries (c .profile) (c .entry) (c .size) h)) [
   | inl e ↦ inl (inl (e .0, ap curveOutcome (e .1)))
   | inr e ↦ inr e
 ]
@@ -106,7 +107,7 @@ by-slots string c x = elim (text-slots (length (c .slots)) (length (c .slots ++ 
 ]
 by-slots (small s) c x = inr refl
 
--- ---- refusal 14 comes last
+-- ---- the refusal for too few slots comes last
 
 lut-valued : (s : State) → IsValue s → lutOutcome s ≡ value
 unfolding IsValue
@@ -132,14 +133,14 @@ small-refused Small·Answer.default n e = never cc
 small-refused Small·Answer.absent n e = never cc
 small-refused (Small·Answer.refused m) n e = let same : m ≡ n = cc in ap Small·Answer.refused same
 
-small-not-14 : (s : Small) (p : List ℕ) (entry size : ℕ) → smallOf s p entry size ≡ Small·Answer.refused 14 → ⊥
-small-not-14 chad = chad-not-14
-small-not-14 sig = sig-not-14
-small-not-14 date = date-not-14
-small-not-14 meas = meas-not-14
-small-not-14 view = view-not-14
-small-not-14 xyz = xyz-not-14
-small-not-14 cicp = cicp-not-14
+small-has-slots : (s : Small) (p : List ℕ) (entry size : ℕ) → smallOf s p entry size ≡ Small·Answer.refused tooFewSlots → ⊥
+small-has-slots chad = chad-not-14
+small-has-slots sig = sig-not-14
+small-has-slots date = date-not-14
+small-has-slots meas = meas-not-14
+small-has-slots view = view-not-14
+small-has-slots xyz = xyz-not-14
+small-has-slots cicp = cicp-not-14
 
 text-refused : (a : Text·Answer) (n : ℕ) → textOutcome a ≡ refused n → a ≡ Text·Answer.refused n
 text-refused (Text·Answer.text s) n e = never cc
@@ -148,32 +149,32 @@ text-refused (Text·Answer.mluc k) n e = never cc
 text-refused Text·Answer.absent n e = never cc
 text-refused (Text·Answer.refused m) n e = let same : m ≡ n = cc in ap Text·Answer.refused same
 
-record Fourteen (r : Reader) (c : Call) : Type 0 where
+record TooFew (r : Reader) (c : Call) : Type 0 where
   short : length (c .slots) < wordsAsked r c
   last : (x : List ℕ) → wordsAsked r c ≤ length (c .slots ++ x) → outcome r (meaning r (withSlots x c)) ≡ value
 
-fourteen : (r : Reader) (c : Call) → outcome r (meaning r c) ≡ refused 14 → Fourteen r c
-fourteen (lut walk) c h =
-    let w = lut-fourteen walk (c .entries) (c .points) (c .profile) (c .entry) (c .size) (length (c .slots)) (lut-refused (meaning (lut walk) c .state) 14 h) in
+too-few : (r : Reader) (c : Call) → outcome r (meaning r c) ≡ refused tooFewSlots → TooFew r c
+too-few (lut walk) c h =
+    let w = lut-fourteen walk (c .entries) (c .points) (c .profile) (c .entry) (c .size) (length (c .slots)) (lut-refused (meaning (lut walk) c .state) tooFewSlots h) in
     record {
       short = omega (arith, w .few);
       last = λ x room. lut-valued _ (lut-enough walk (c .entries) (c .points) (c .profile) (c .entry) (c .size) (length (c .slots)) w (length (c .slots ++ x)) (omega (arith, room)));
     }
-fourteen (trc walk) c h = absurd (trc-not-14 walk (c .entries) (c .profile) (c .entry) (c .size) (curve-refused (meaning (trc walk) c) 14 h))
-fourteen string c h =
-    let w = text-fourteen (c .profile) (c .entry) (c .size) (length (c .slots)) (text-refused (meaning string c) 14 h) in
+too-few (trc walk) c h = absurd (trc-not-14 walk (c .entries) (c .profile) (c .entry) (c .size) (curve-refused (meaning (trc walk) c) tooFewSlots h))
+too-few string c h =
+    let w = text-fourteen (c .profile) (c .entry) (c .size) (length (c .slots)) (text-refused (meaning string c) tooFewSlots h) in
     record {
       short = omega (arith, w .few);
       last = λ x room. ap textOutcome (text-enough (c .profile) (c .entry) (c .size) (length (c .slots)) w (length (c .slots ++ x)) (omega (arith, room)));
     }
-fourteen (small s) c h = absurd (small-not-14 s (c .profile) (c .entry) (c .size) (small-refused (meaning (small s) c) 14 h))
+too-few (small s) c h = absurd (small-has-slots s (c .profile) (c .entry) (c .size) (small-refused (meaning (small s) c) tooFewSlots h))
 
 -- ---- the slots
 
 -- of a value every word is left as before, and those lent besides stay
-lut-slots : (walk : Walk) (c : Call) (q : List ℕ) (entries points : ℕ) (x : List ℕ) → c .entries ≤ entries → c .points ≤ points → outcome (lut walk) (meaning (lut walk) c) ≡ value → slotsAfter (lut walk) (withAll q entries points x c) ≡ slotsAfter (lut walk) c ++ x
+lut-slots-stay : (walk : Walk) (c : Call) (q : List ℕ) (entries points : ℕ) (x : List ℕ) → c .entries ≤ entries → c .points ≤ points → outcome (lut walk) (meaning (lut walk) c) ≡ value → slotsAfter (lut walk) (withAll q entries points x c) ≡ slotsAfter (lut walk) c ++ x
 unfolding IsValue
-lut-slots walk c q entries points x h k v =
+lut-slots-stay walk c q entries points x h k v =
     lut-stays walk (c .entries) entries h (c .points) points k (c .profile) q (c .entry) (c .size) (c .slots) x (by (meaning (lut walk) c .state) v) .slots-stay
   where
     by : (s : State) → lutOutcome s ≡ value → IsValue s
@@ -189,8 +190,8 @@ is-value (Text·Answer.mluc n) e = tt
 is-value Text·Answer.absent e = never cc
 is-value (Text·Answer.refused n) e = never cc
 
-text-slots : (c : Call) (q x : List ℕ) → outcome string (meaning string c) ≡ value → slotsAfter string (withSlots x (withBytes q c)) ≡ slotsAfter string c ++ x
-text-slots c q x v =
+text-slots-stay : (c : Call) (q x : List ℕ) → outcome string (meaning string c) ≡ value → slotsAfter string (withSlots x (withBytes q c)) ≡ slotsAfter string c ++ x
+text-slots-stay c q x v =
     let h = text-stays (c .profile) q (c .entry) (c .size) (length (c .slots)) (length (c .slots ++ x)) (more-room (c .slots) x) (is-value (meaning string c) v) in
     rw (h .answer-stays, h .records-stay) (by (meaning string c) refl)
   where
@@ -206,9 +207,9 @@ text-slots c q x v =
     by (Text·Answer.refused n) e = refl
 
 slots-grow : (r : Reader) (c : Call) (q : List ℕ) (entries points : ℕ) (x : List ℕ) → c .entries ≤ entries → c .points ≤ points → outcome r (meaning r c) ≡ value → slotsAfter r (withAll q entries points x c) ≡ slotsAfter r c ++ x
-slots-grow (lut walk) c q entries points x h k v = lut-slots walk c q entries points x h k v
+slots-grow (lut walk) c q entries points x h k v = lut-slots-stay walk c q entries points x h k v
 slots-grow (trc walk) c q entries points x h k v = refl
-slots-grow string c q entries points x h k v = text-slots c q x v
+slots-grow string c q entries points x h k v = text-slots-stay c q x v
 slots-grow (small s) c q entries points x h k v = refl
 
 -- where the same is said, the slots are left the same: a value's as above, and all others as they were lent
@@ -230,7 +231,7 @@ left-stays r c q entries points x h k e = by (outcome r (meaning r c)) refl
 -- a value and a default are not of the kind that may change
 fixed : (r : Reader) (c : Call) (entries points : ℕ) (o : Outcome) → (o ≡ absent → ⊥) → ((n : ℕ) → o ≡ refused n → ⊥) → ByBytes r c o ⊎ ByLimits c entries points o ⊎ BySlots o → ⊥
 fixed r c entries points o a b (inl (inl e)) = b _ e
-fixed r c entries points o a b (inl (inr e)) = a (e .1)
+fixed r c entries points o a b (inl (inr w)) = a (w .is-absent)
 fixed r c entries points o a b (inr (inl (inl e))) = b _ (e .1)
 fixed r c entries points o a b (inr (inl (inr e))) = b _ (e .1)
 fixed r c entries points o a b (inr (inr e)) = b _ e
@@ -265,11 +266,11 @@ module _ (l : Library) (p : Promised l) where
     | inr e ↦ inr (alone r c (withSlots x c) [] (c .entries) (c .points) x (omega arith) (omega arith) (λ i. record { profile = append-nil (c .profile) i; entry = c .entry; size = c .size; entries = c .entries; points = c .points; slots = c .slots ++ x }) e)
   ]
 
-  fourteen-short : (r : Reader) (c : Call) → ends l r c ≡ refused 14 → length (c .slots) < wordsAsked r c
-  fourteen-short r c h = fourteen r c (sym (ends-so l p r c) ∙ h) .short
+  too-few-short : (r : Reader) (c : Call) → ends l r c ≡ refused tooFewSlots → length (c .slots) < wordsAsked r c
+  too-few-short r c h = too-few r c (sym (ends-so l p r c) ∙ h) .short
 
-  fourteen-last : (r : Reader) (c : Call) (x : List ℕ) → ends l r c ≡ refused 14 → wordsAsked r c ≤ length (c .slots ++ x) → ends l r (withSlots x c) ≡ value
-  fourteen-last r c x h room = ends-so l p r (withSlots x c) ∙ fourteen r c (sym (ends-so l p r c) ∙ h) .last x room
+  too-few-last : (r : Reader) (c : Call) (x : List ℕ) → ends l r c ≡ refused tooFewSlots → wordsAsked r c ≤ length (c .slots ++ x) → ends l r (withSlots x c) ≡ value
+  too-few-last r c x h room = ends-so l p r (withSlots x c) ∙ too-few r c (sym (ends-so l p r c) ∙ h) .last x room
 
   all : (r : Reader) (c : Call) (q : List ℕ) (entries points : ℕ) (x : List ℕ) → c .entries ≤ entries → c .points ≤ points → (ByBytes r c (ends l r c) ⊎ ByLimits c entries points (ends l r c) ⊎ BySlots (ends l r c)) ⊎ Same l r c (withAll q entries points x c) x
   all r c q entries points x h k =
@@ -298,8 +299,8 @@ module _ (l : Library) (p : Promised l) where
         bytes = bytes;
         limits = limits;
         slots = slots;
-        fourteen-short = fourteen-short;
-        fourteen-last = fourteen-last;
+        too-few-short = too-few-short;
+        too-few-last = too-few-last;
         all = all;
         value-stays = λ r c q entries points x h k e. stays r c q entries points x h k (λ f. never cc) (λ n f. never cc);
         default-stays = λ r c q entries points x h k e. stays r c q entries points x h k (λ f. never cc) (λ n f. never cc);

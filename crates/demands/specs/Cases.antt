@@ -45,7 +45,7 @@ upTo entries profile size =
     record { profile = profile; entry = 0; size = size; entries = entries; points = housePoints; slots = [] }
 
 abbrev pub lone : List ℕ → ℕ → Call
-lone profile size = upTo 4096 profile size
+lone profile size = upTo houseEntries profile size
 
 -- a function of a type, with parameters
 abbrev pub function : ℕ → List ℕ → List ℕ
@@ -57,33 +57,94 @@ withTable inputs outputs grid =
     (0x6d ∷ 0x41 ∷ 0x42 ∷ 0x20 ∷ 0 ∷ 0 ∷ 0 ∷ 0 ∷ inputs ∷ outputs ∷ replicate 17 0)
     ++ (32 ∷ 0 ∷ 0 ∷ 0 ∷ 0 ∷ clut grid 1)
 
+-- the words of a curve without parameters: its kind, where its data start, and the number of its entries
+abbrev pub curveWords : ℕ → ℕ → ℕ → List ℕ
+curveWords kind start count = kind ∷ start ∷ count ∷ replicate 7 0
+
+-- ---- lone curves
+
+-- an empty `curv`
+abbrev pub emptyCurve : Case
+emptyCurve = answers (trc Crate) (lone none 12) (value (curveWords 0 12 0) 0)
+
+-- two entries, and one byte too few
+abbrev pub twoEntries : Case
+twoEntries = answers (trc Crate) (lone two 16) (value (curveWords 1 12 2) 16)
+
+abbrev pub oneByteShort : Case
+oneByteShort = refuses (trc Crate) (lone two 15) 11
+
+-- 4,097 entries, past the limit, and in 16 bytes
+abbrev pub pastTheLimit : Case
+pastTheLimit = refuses (trc Crate) (upTo 4096 many 16) 10
+
+abbrev pub withinTheLimit : Case
+withinTheLimit = refuses (trc Crate) (upTo 4097 many 16) 11
+
+-- `para` of type 0, with 0x00023333 and with 0xFFFF0000
+abbrev pub oneParameter : Case
+oneParameter =
+    answers (trc Crate) (lone (function 0 (0x00 ∷ 0x02 ∷ 0x33 ∷ 0x33 ∷ [])) 16)
+    (value (2 ∷ 12 ∷ 1 ∷ 144179 ∷ replicate 6 0) 16)
+
+abbrev pub signedParameter : Case
+signedParameter =
+    means (lone (function 0 (0xFF ∷ 0xFF ∷ 0 ∷ 0 ∷ [])) 16)
+    (negsuc 65535 ∷ pos 0 ∷ pos 0 ∷ pos 0 ∷ pos 0 ∷ pos 0 ∷ pos 0 ∷ [])
+
+-- of type 1 with a = 0, and of type 5
+abbrev pub noSlope : Case
+noSlope = refuses (trc Crate) (lone (function 1 (0 ∷ 1 ∷ 0 ∷ 0 ∷ 0 ∷ 0 ∷ 0 ∷ 0 ∷ 0 ∷ 1 ∷ 0 ∷ 0 ∷ [])) 24) 13
+
+abbrev pub noSuchType : Case
+noSuchType = refuses (trc Crate) (lone (function 5 []) 12) 12
+
+-- ---- `mAB ` with three B curves, with so many slots
+
+abbrev pub withSlotsFor : ℕ → Call
+withSlotsFor n = call threeCurves 72 (slots n)
+
+abbrev pub crateAnswer : Case
+crateAnswer = answers (lut Crate) (withSlotsFor 3) (plain threeB)
+
+abbrev pub crateRecords : Case
+crateRecords = leaves (lut Crate) (withSlotsFor 3) (emptyAt 44 ++ emptyAt 44 ++ emptyAt 44)
+
+abbrev pub bookAnswer : Case
+bookAnswer = answers (lut Book) (withSlotsFor 3) (plain threeB)
+
+abbrev pub bookRecords : Case
+bookRecords = leaves (lut Book) (withSlotsFor 3) (emptyAt 44 ++ emptyAt 56 ++ straightAt 68)
+
+abbrev pub crateTwoSlots : Case
+crateTwoSlots = refuses (lut Crate) (withSlotsFor 2) 14
+
+abbrev pub bookTwoSlots : Case
+bookTwoSlots = refuses (lut Book) (withSlotsFor 2) 14
+
+-- ---- colour tables: a grid of 2, 2, 2 with three outputs; four times 255 with two; 1, 2, 2
+
+abbrev pub smallCube : Case
+smallCube = counts (clut cube 1) 3 3 (24 ∷ 21 ∷ 23 ∷ [])
+
+abbrev pub hugeGrid : Case
+hugeGrid = refuses (lut Crate) (call (withTable 4 2 (255 ∷ 255 ∷ 255 ∷ 255 ∷ [])) 76 []) 4
+
+abbrev pub flatGrid : Case
+flatGrid = refuses (lut Crate) (call (withTable 3 3 (1 ∷ 2 ∷ 2 ∷ 0 ∷ [])) 76 []) 7
+
+-- ---- `mluc` with count 0 and a string of five bytes
+
+abbrev pub oneString : Case
+oneString = answers string (call five 33 (textSlots 1)) (mluc 1)
+
+abbrev pub stringRecord : Case
+stringRecord = leaves string (call five 33 (textSlots 1)) (recordOf 28 4)
+
 abbrev pub cases : List Case
 cases =
-    -- an empty `curv`
-    answers (trc Crate) (lone none 12) (value (0 ∷ 12 ∷ 0 ∷ 0 ∷ 0 ∷ 0 ∷ 0 ∷ 0 ∷ 0 ∷ 0 ∷ []) 0) ∷
-    -- two entries; one byte too few
-    answers (trc Crate) (lone two 16) (value (1 ∷ 12 ∷ 2 ∷ 0 ∷ 0 ∷ 0 ∷ 0 ∷ 0 ∷ 0 ∷ 0 ∷ []) 16) ∷
-    refuses (trc Crate) (lone two 15) 11 ∷
-    -- 4,097 entries, by the limit and in 16 bytes
-    refuses (trc Crate) (upTo 4096 many 16) 10 ∷
-    refuses (trc Crate) (upTo 4097 many 16) 11 ∷
-    -- `para` of type 0, with 0x00023333 and with 0xFFFF0000; of type 1 with a = 0; of type 5
-    answers (trc Crate) (lone (function 0 (0x00 ∷ 0x02 ∷ 0x33 ∷ 0x33 ∷ [])) 16) (value (2 ∷ 12 ∷ 1 ∷ 144179 ∷ 0 ∷ 0 ∷ 0 ∷ 0 ∷ 0 ∷ 0 ∷ []) 16) ∷
-    means (lone (function 0 (0xFF ∷ 0xFF ∷ 0 ∷ 0 ∷ [])) 16) (negsuc 65535 ∷ pos 0 ∷ pos 0 ∷ pos 0 ∷ pos 0 ∷ pos 0 ∷ pos 0 ∷ []) ∷
-    refuses (trc Crate) (lone (function 1 (0 ∷ 1 ∷ 0 ∷ 0 ∷ 0 ∷ 0 ∷ 0 ∷ 0 ∷ 0 ∷ 1 ∷ 0 ∷ 0 ∷ [])) 24) 13 ∷
-    refuses (trc Crate) (lone (function 5 []) 12) 12 ∷
-    -- `mAB ` with three B curves, on either walk, and with two slots
-    answers (lut Crate) (call threeCurves 72 (slots 3)) (plain threeB) ∷
-    leaves (lut Crate) (call threeCurves 72 (slots 3)) (emptyAt 44 ++ emptyAt 44 ++ emptyAt 44) ∷
-    answers (lut Book) (call threeCurves 72 (slots 3)) (plain threeB) ∷
-    leaves (lut Book) (call threeCurves 72 (slots 3)) (emptyAt 44 ++ emptyAt 56 ++ straightAt 68) ∷
-    refuses (lut Crate) (call threeCurves 72 (slots 2)) 14 ∷
-    refuses (lut Book) (call threeCurves 72 (slots 2)) 14 ∷
-    -- a grid of 2, 2, 2 with three outputs; four times 255 with two; 1, 2, 2
-    counts (clut cube 1) 3 3 (24 ∷ 21 ∷ 23 ∷ []) ∷
-    refuses (lut Crate) (call (withTable 4 2 (255 ∷ 255 ∷ 255 ∷ 255 ∷ [])) 76 []) 4 ∷
-    refuses (lut Crate) (call (withTable 3 3 (1 ∷ 2 ∷ 2 ∷ 0 ∷ [])) 76 []) 7 ∷
-    -- `mluc` with count 0 and a string of five bytes
-    answers string (call five 33 (textSlots 1)) (mluc 1) ∷
-    leaves string (call five 33 (textSlots 1)) (recordOf 28 4) ∷
-    []
+    emptyCurve ∷ twoEntries ∷ oneByteShort ∷ pastTheLimit ∷ withinTheLimit ∷
+    oneParameter ∷ signedParameter ∷ noSlope ∷ noSuchType ∷
+    crateAnswer ∷ crateRecords ∷ bookAnswer ∷ bookRecords ∷ crateTwoSlots ∷ bookTwoSlots ∷
+    smallCube ∷ hugeGrid ∷ flatGrid ∷
+    oneString ∷ stringRecord ∷ []

@@ -4,10 +4,10 @@ use Rattle.lut_meaning.proofs.Unique.{lutTo}
 use Rattle.text_meaning.proofs.Unique.{resultTo as Text·resultTo}
 use Rattle.small_meaning.specs.Answer.{Answer as Small·Answer}
 use Rattle.small_meaning.proofs.Unique.{chadFrom, sigFrom, dateFrom, measFrom, viewFrom, xyzFrom, cicpFrom}
-use Rattle.lut_view_meaning.specs.Answer.{Answer}
+use Rattle.lut_view_meaning.specs.Answer.{resultFrom as View·resultFrom}
 use Rattle.lut_view_meaning.specs.View.{tableBy, entryOf}
-use Rattle.lut_view_meaning.specs.declared.EntryAnswer.{EntryAnswer}
-use Rattle.demands.specs.Readers.{Small, chad, sig, date, meas, view, xyz, cicp, Reader, lut, trc, string, small, SmallResult, Result, Numbers, meaning, slotsAfter, Library}
+use Rattle.demands.specs.Readers.{Small, chad, sig, date, meas, view, xyz, cicp, Reader, lut, trc, string, small, SmallResult, Result}
+use Rattle.demands.specs.Readers.{Numbers, meaning, slotsAfter, Library}
 
 -- the result that stands for an answer
 abbrev pub smallResult : (s : Small) → Small·Answer → SmallResult s
@@ -25,14 +25,10 @@ result (trc walk) a = Curve·resultFrom a
 result string a = Text·resultTo a
 result (small s) a = smallResult s a
 
-abbrev pub entryResult : Answer → EntryAnswer
-entryResult (Answer.value n) = EntryAnswer.Value n
-entryResult Answer.absent = EntryAnswer.Absent
-
 abbrev pub kept : Library
 kept =
     record {
       returns = λ r c. result r (meaning r c);
       leaves = slotsAfter;
-      reads = λ t n index channel. entryResult (entryOf t (tableBy t n) index channel);
+      reads = λ t n index channel. View·resultFrom (entryOf t (tableBy t n) index channel);
     }

@@ -13,7 +13,8 @@ use Rattle.lut_meaning.specs.declared.Lut.{Lut}
 use Rattle.text_meaning.specs.Answer.{Answer as Text·Answer, inNumbers as Text·inNumbers}
 use Rattle.text_meaning.specs.Text.{stringOf, slotsAfter as Text·slotsAfter}
 use Rattle.text_meaning.specs.declared.TextAnswer.{TextAnswer}
-use Rattle.small_meaning.specs.Answer.{Answer as Small·Answer, chadInNumbers, sigInNumbers, dateInNumbers, measInNumbers, viewInNumbers, xyzInNumbers, cicpInNumbers}
+use Rattle.small_meaning.specs.Answer.{Answer as Small·Answer, chadInNumbers, sigInNumbers, dateInNumbers, measInNumbers, viewInNumbers}
+use Rattle.small_meaning.specs.Answer.{xyzInNumbers, cicpInNumbers}
 use Rattle.small_meaning.specs.Small.{chadOf, sigOf, dateOf, measOf, viewOf, xyzOf, cicpOf}
 use Rattle.small_meaning.specs.declared.ChadAnswer.{ChadAnswer}
 use Rattle.small_meaning.specs.declared.CicpAnswer.{CicpAnswer}
@@ -22,7 +23,7 @@ use Rattle.small_meaning.specs.declared.MeasAnswer.{MeasAnswer}
 use Rattle.small_meaning.specs.declared.SigAnswer.{SigAnswer}
 use Rattle.small_meaning.specs.declared.ViewAnswer.{ViewAnswer}
 use Rattle.small_meaning.specs.declared.XyzAnswer.{XyzAnswer}
-use Rattle.lut_view_meaning.specs.Answer.{inNumbers as Table·inNumbers}
+use Rattle.lut_view_meaning.specs.Answer.{inNumbers as View·inNumbers}
 use Rattle.lut_view_meaning.specs.View.{tableBy, entryOf}
 use Rattle.lut_view_meaning.specs.declared.EntryAnswer.{EntryAnswer}
 use Rattle.lut_view_meaning.specs.declared.TableNumbers.{TableNumbers}
@@ -181,7 +182,7 @@ Keeps r c x slots = Answers r c x × Leaves r c slots
 
 -- and that of `lut_view::entry_at`, of the entry that it reads
 abbrev pub Reads : List ℕ → TableNumbers → List ℕ → ℕ → EntryAnswer → Type 0
-Reads t n index channel x = Table·inNumbers x ≡ entryOf t (tableBy t n) index channel
+Reads t n index channel x = View·inNumbers x ≡ entryOf t (tableBy t n) index channel
 
 -- the library keeps the contracts of the readers and of `lut_view::entry_at`. The functions of crate demands_kept say the same of the code
 pub record Promised (l : Library) : Type 0 where

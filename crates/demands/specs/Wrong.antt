@@ -1,7 +1,8 @@
 -- Wrong readers, each made of a library by one fault, and the sentence that they are shut out.
 use Prim.Native.Nat.{ℕ, zero, suc, _*_}
 use mathlib.Core.List.{List, [], _++_}
-use lib.ListN.{length, take, drop, replicate}
+use lib.ListN.{take, replicate}
+use Rattle.fields.specs.House.{tagSize}
 use Rattle.fields.specs.declared.Refusal.{Refusal}
 use Rattle.fields.specs.declared.Refusal.the-variants.{PastProfile}
 use Rattle.curve_meaning.specs.Shape.{recordWords}
@@ -19,8 +20,9 @@ use Rattle.small_meaning.specs.declared.SigAnswer.{SigAnswer}
 use Rattle.small_meaning.specs.declared.ViewAnswer.{ViewAnswer}
 use Rattle.small_meaning.specs.declared.XyzAnswer.{XyzAnswer}
 use Rattle.text_meaning.specs.declared.TextAnswer.{TextAnswer}
-use Rattle.demands.specs.Readers.{Small, chad, sig, date, meas, view, xyz, cicp, Reader, lut, trc, string, small, Call, SmallResult, Result, slotsAfter, Library, Promised}
-use Rattle.demands.specs.Demands.{tag, Demand1, Demand2}
+use Rattle.demands.specs.Readers.{Small, chad, sig, date, meas, view, xyz, cicp, Reader, lut, trc, string, small, Call, SmallResult}
+use Rattle.demands.specs.Readers.{Result, slotsAfter, Library, Promised}
+use Rattle.demands.specs.Demands.{tag, inFront, Demand1, Demand2}
 
 -- ---- one that refuses all
 
@@ -62,7 +64,7 @@ alwaysDefault l = record { returns = λ r c. defaultInstead r (l .returns r c); 
 abbrev pub identityInstead : (r : Reader) → Result r → Result r
 identityInstead (lut walk) x = x
 identityInstead (trc walk) x =
-    CurveAnswer.Value record { kind = 0; start = 12; count = 0; g = 0; a = 0; b = 0; c = 0; d = 0; e = 0; f = 0 } 0
+    CurveAnswer.Value record { kind = 0; start = tagSize; count = 0; g = 0; a = 0; b = 0; c = 0; d = 0; e = 0; f = 0 } 0
 identityInstead string x = x
 identityInstead (small s) x = x
 
@@ -85,9 +87,7 @@ copies zero words = []
 copies (suc n) words = words ++ copies n words
 
 abbrev pub copiedIn : Reader → Call → List ℕ
-copiedIn (lut walk) c =
-    let records = copies (recordsNeeded (tag c)) (take recordWords (recordsRead walk c)) in
-    records ++ drop (length records) (c .slots)
+copiedIn (lut walk) c = inFront (copies (recordsNeeded (tag c)) (take recordWords (recordsRead walk c))) (c .slots)
 copiedIn (trc walk) c = c .slots
 copiedIn string c = slotsAfter string c
 copiedIn (small s) c = c .slots
@@ -127,9 +127,7 @@ madeUp l = record { returns = λ r c. oneInstead r (l .returns r c); leaves = l 
 -- ---- one that writes the records that it read before it refuses
 
 abbrev pub writtenIn : Reader → Call → List ℕ
-writtenIn (lut walk) c =
-    let records = recordsRead walk c in
-    records ++ drop (length records) (c .slots)
+writtenIn (lut walk) c = inFront (recordsRead walk c) (c .slots)
 writtenIn (trc walk) c = c .slots
 writtenIn string c = slotsAfter string c
 writtenIn (small s) c = c .slots
@@ -140,9 +138,7 @@ tooEarly l = record { returns = l .returns; leaves = writtenIn; reads = l .reads
 -- ---- one that writes zeros for the records
 
 abbrev pub zerosIn : Reader → Call → List ℕ
-zerosIn (lut walk) c =
-    let records : List ℕ = replicate (recordsNeeded (tag c) * recordWords) 0 in
-    records ++ drop (length records) (c .slots)
+zerosIn (lut walk) c = inFront (replicate (recordsNeeded (tag c) * recordWords) 0) (c .slots)
 zerosIn (trc walk) c = c .slots
 zerosIn string c = slotsAfter string c
 zerosIn (small s) c = c .slots

@@ -13,6 +13,7 @@ use lib.IntN.{ℤ, pos, negsuc}
 use lib.ListN.{length, getD, take, drop, take-append-drop, length-take, List·getD-eq-default}
 use lib.Seq.{drop-cons, drop-drop, getD-drop, getD-take}
 use borrow.Author.Tests.{lt-ltb, le-ltb, ltb-true, ltb-false}
+use Rattle.icc.specs.Each.{Each}
 use Rattle.icc.specs.Curves.{Function, curveType, parametricCurveType}
 use Rattle.icc.specs.Elements.{aToB, bToA, signature}
 use Rattle.icc.specs.Numbers.{be8, be16, be32, bits, IsFixed, s15Fixed16Number, each16, each32, Is16, Is32, Each16, Each32, Bytes}
@@ -105,12 +106,12 @@ bytes-drop s i k (suc n) = rw (getD-drop i s k 0, bytes-drop s i (k + 1) n, add-
 
 -- a row that is written is read again
 pub words-written : (ns rest : List ℕ) → Each32 ns → wordsAt (each32 ns ++ rest) 0 (length ns) ≡ ns
-unfolding wordsAt each32 Each32
+unfolding wordsAt each32 Each
 words-written [] rest h = refl
 words-written (n ∷ ns) rest (h, hs) = rw (read32 n h, ← words-drop (be32 n ++ (each32 ns ++ rest)) 4 0 (length ns), words-written ns rest hs)
 
 pub halves-written : (ns rest : List ℕ) → Each16 ns → halvesAt (each16 ns ++ rest) 0 (length ns) ≡ ns
-unfolding halvesAt each16 Each16
+unfolding halvesAt each16 Each
 halves-written [] rest h = refl
 halves-written (n ∷ ns) rest (h, hs) = rw (read16 n h, ← halves-drop (be16 n ++ (each16 ns ++ rest)) 2 0 (length ns), halves-written ns rest hs)
 
@@ -149,12 +150,12 @@ pub below32 : (t : List ℕ) → Bytes t → (i : ℕ) → Is32 (u32At t i)
 below32 t b i = omega (arith, b i, b (i + 1), b (i + 2), b (i + 3))
 
 pub words-below : (t : List ℕ) → Bytes t → (i n : ℕ) → Each32 (wordsAt t i n)
-unfolding wordsAt Each32
+unfolding wordsAt Each
 words-below t b i zero = tt
 words-below t b i (suc n) = (below32 t b i, words-below t b (i + 4) n)
 
 pub halves-below : (t : List ℕ) → Bytes t → (i n : ℕ) → Each16 (halvesAt t i n)
-unfolding halvesAt Each16
+unfolding halvesAt Each
 halves-below t b i zero = tt
 halves-below t b i (suc n) = (below16 t b i, halves-below t b (i + 2) n)
 

@@ -53,10 +53,6 @@ Holds (counts size n) = countedSize size ≡ n
 Holds (numbers rs ns) = map refusalNumber rs ≡ ns
 Holds (defaults l) = houseLimits ≡ l
 
-unfoldable pub All : List Case → Type 0
-All [] = Unit
-All (c ∷ cs) = Holds c × All cs
-
 abbrev pub refusals : List Refusal
 refusals =
     PastProfile ∷ TagTooShort ∷ OtherLut ∷ GridOverflow ∷ GridZero ∷ GridTooLarge ∷ GridDimension ∷ EntrySize ∷ OtherCurve ∷ TooManyEntries ∷ CurveRunsOut ∷ FunctionType ∷ ZeroDivision ∷ TooFewSlots ∷ BadTable ∷ GridOverLimit ∷ BadChad ∷ LastPoint ∷ []

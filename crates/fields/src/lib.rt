@@ -27,10 +27,10 @@ pub struct Limits {
 // An offset from the profile's first byte, as the tag table has it.
 pub struct Entry(pub u32);
 
-// An offset from the tag's first byte. It has 64 bits, because one that is raised to a multiple of 4 can pass 2^32.
+// An offset from the tag's first byte. It has 64 bits, because the next multiple of 4 can pass 2^32.
 pub struct InTag(pub u64);
 
-// Why a call is refused; `numberOf` of specs/ gives the number.
+// Why a call is refused; `refusalNumber` of specs/ gives the number.
 pub enum Refusal {
     PastProfile,
     TagTooShort,

@@ -3,19 +3,18 @@ use Prim.Native.Nat.{ℕ, _*_, _≤_, _<_}
 use mathlib.Core.Path.{_≡_}
 use mathlib.Core.List.{List, [], _∷_, _++_}
 use lib.ListN.{length}
+use Rattle.icc.specs.Each.{Each}
 use Rattle.icc.specs.Elements.{Stands}
 use Rattle.icc.specs.Numbers.{be8, be16, be32, each16, Is16, Is32, Each16}
 
 -- ---- characters
 
 -- 7-bit ASCII, and Unicode in units of 16 bits; none is the 0 that ends a string
-unfoldable pub Ascii : List ℕ → Type 0
-Ascii [] = Unit
-Ascii (c ∷ cs) = ((1 ≤ c) × (c < 128)) × Ascii cs
+abbrev pub Ascii : List ℕ → Type 0
+Ascii cs = Each (λ c. (1 ≤ c) × (c < 128)) cs
 
-unfoldable pub Utf16 : List ℕ → Type 0
-Utf16 [] = Unit
-Utf16 (c ∷ cs) = ((1 ≤ c) × Is16 c) × Utf16 cs
+abbrev pub Utf16 : List ℕ → Type 0
+Utf16 cs = Each (λ c. (1 ≤ c) × Is16 c) cs
 
 -- a string: characters, and the 0 that ends them
 abbrev pub terminated : List ℕ → List ℕ
@@ -122,9 +121,8 @@ pub record StringAt (t : List ℕ) (l : Localized) : Type 0 where
   pub in-tag : l .offset ≤ length t
   pub stands : Stands t (l .offset) (each16 (l .units))
 
-unfoldable pub StringsAt : List ℕ → List Localized → Type 0
-StringsAt t [] = Unit
-StringsAt t (l ∷ ls) = StringAt t l × StringsAt t ls
+abbrev pub StringsAt : List ℕ → List Localized → Type 0
+StringsAt t ls = Each (StringAt t) ls
 
 -- t is a multiLocalizedUnicodeType
 pub record LocalizedTag (t : List ℕ) : Type 0 where

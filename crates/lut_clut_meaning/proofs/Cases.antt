@@ -1,11 +1,12 @@
 -- The worked cases of the colour table hold, jointly: each is computed.
 -- Assumes nothing.
 use mathlib.Core.Path.{refl}
+use Rattle.icc.specs.Each.{Each}
 use Rattle.lut_clut_meaning.specs.Answer.{answerOf}
-use Rattle.lut_clut_meaning.specs.Cases.{All, Holds, numbersIn, cases}
+use Rattle.lut_clut_meaning.specs.Cases.{Holds, numbersIn, cases}
 use Rattle.lut_clut_meaning.specs.Clut.{clutOf, shapeOf, some, partials}
 use Rattle.lut_clut_meaning.specs.Table.{product, pointOf}
 
-pub claim : All cases
-unfolding All Holds numbersIn answerOf clutOf shapeOf some partials product pointOf
+pub claim : Each Holds cases
+unfolding Each Holds numbersIn answerOf clutOf shapeOf some partials product pointOf
 claim = (refl, (refl, (refl, (refl, (refl, (refl, (refl, (refl, (refl, (refl, (refl, (refl, (refl, (refl, (refl, (refl, (refl, (refl, (refl, (refl, (refl, (refl, (refl, (refl, tt))))))))))))))))))))))))

@@ -29,10 +29,6 @@ Holds (givesAt t at inputs outputs a) = answerOf (clutOf t at inputs outputs) �
 Holds (numbers t inputs outputs ns) = numbersIn (clutOf t 0 inputs outputs) ≡ ns
 Holds (point grid index n) = pointOf grid index ≡ n
 
-unfoldable pub All : List Case → Type 0
-All [] = Unit
-All (c ∷ cs) = Holds c × All cs
-
 -- a tag: four bytes of the grid and twelve more, the bytes of an entry, three reserved, and 24 bytes of data
 abbrev pub tag : List ℕ → ℕ → List ℕ
 tag grid size = grid ++ (replicate 12 0 ++ (size ∷ 0 ∷ 0 ∷ 0 ∷ replicate 24 0))

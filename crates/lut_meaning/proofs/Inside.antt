@@ -11,6 +11,7 @@ use lib.Dec.{ltb, eqb}
 use lib.ListN.{length, getD, take, drop, replicate}
 use lib.Seq.{take-take}
 use borrow.Author.Tests.{ltb-false, eqb-true, eqb-false, eq-eqb, ne-eqb}
+use Rattle.icc.specs.Each.{Each}
 use Rattle.fields.proofs.Never.{never}
 use Rattle.fields.specs.Checked.{Checked, good}
 use Rattle.fields.specs.Place.{countedSize}
@@ -27,7 +28,7 @@ use Rattle.lut_clut_meaning.proofs.Inside.{inside}
 use Rattle.curve_meaning.specs.declared.Walk.{Walk}
 use Rattle.lut_mft_meaning.specs.Answer.{Fields, answerOf}
 use Rattle.lut_mft_meaning.proofs.Inside.{Inside as MftInside, inside as inside-mft}
-use Rattle.lut_run_meaning.specs.Run.{Placed, CurveStands, Each}
+use Rattle.lut_run_meaning.specs.Run.{Placed, CurveStands}
 use Rattle.lut_run_meaning.proofs.Runs.{run-inside}
 use Rattle.lut_meaning.specs.Abm.{noTable, colourTableOf, valueFrom, toldTable, abmOf}
 use Rattle.lut_meaning.specs.Answer.{Abm, mft, abm, Answer}

@@ -23,10 +23,6 @@ Holds (gives walk profile size slots a left) =
     (lutOf walk houseEntries housePoints profile 0 size (length slots) ≡ a)
     × (slotsAfter walk houseEntries housePoints profile 0 size slots ≡ left)
 
-unfoldable pub All : List Case → Type 0
-All [] = Unit
-All (c ∷ cs) = Holds c × All cs
-
 -- the first 32 bytes of a tag with these letters in the middle of its signature, so many channels, and B curves, matrix, M curves, colour
 -- table and A curves at these offsets
 abbrev pub headOf : ℕ → ℕ → ℕ → ℕ → ℕ → ℕ → ℕ → ℕ → ℕ → List ℕ

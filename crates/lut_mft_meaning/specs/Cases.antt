@@ -13,10 +13,6 @@ pub data Case : Type 0 where
 unfoldable pub Holds : Case → Type 0
 Holds (gives limit t s matrix) = answerOf t (mftOf limit t) ≡ record { state = s; matrix = matrix }
 
-unfoldable pub All : List Case → Type 0
-All [] = Unit
-All (c ∷ cs) = Holds c × All cs
-
 -- the first 48 bytes of a tag with this last byte of its signature, so many channels and so many points in each dimension; its matrix is
 -- the numbers 1 to 9
 abbrev pub headOf : ℕ → ℕ → ℕ → ℕ → List ℕ

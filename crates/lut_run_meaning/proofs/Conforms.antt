@@ -9,6 +9,7 @@ use mathlib.Core.List.{List, [], _∷_, _++_, map, append-assoc}
 use lib.ListN.{length, getD, drop, length-map, length-append, length-drop}
 use lib.Seq.{getD-at}
 use borrow.Author.Tests.{le-ltb}
+use Rattle.icc.specs.Each.{Each}
 use Rattle.fields.specs.Checked.{good}
 use Rattle.icc.specs.Curves.{Curve, curveElement}
 use Rattle.icc.specs.Elements.{Stands, PlacedCurve, CurvesFrom}
@@ -20,7 +21,7 @@ use Rattle.curve_meaning.specs.declared.Walk.{Walk}
 use Rattle.curve_meaning.specs.declared.Walk.the-variants.{Crate, Book}
 use Rattle.curve_meaning.proofs.Inside.{book-step, size-least}
 use Rattle.curve_meaning.proofs.Conforms.{written-read, written-size, told-words, read-written}
-use Rattle.lut_run_meaning.specs.Run.{Placed, placed, whole, aligned, curveAtOffset, runAt, recordsOf, Each}
+use Rattle.lut_run_meaning.specs.Run.{Placed, placed, whole, aligned, curveAtOffset, runAt, recordsOf}
 use Rattle.lut_run_meaning.specs.Standard.{seenOf, AllFit, Passes, Standing, recordsTold, NoneEmpty}
 use Rattle.lut_run_meaning.proofs.Runs.{entry-there, Reads, run-reads, reads-run}
 use Rattle.lut_run_meaning.proofs.Writing.{words-length}

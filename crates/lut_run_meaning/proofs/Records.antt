@@ -7,8 +7,9 @@ use mathlib.Core.List.{List, [], _∷_, _++_, append-assoc}
 use lib.ListN.{length, getD, take, drop}
 use lib.Seq.{drop-drop, take-at, drop-at}
 use borrow.Author.Tests.{ne-eqb}
+use Rattle.icc.specs.Each.{Each}
 use Rattle.curve_meaning.specs.Shape.{Shape, empty, table, para, sizeOf, wordsOf, recordWords}
-use Rattle.lut_run_meaning.specs.Run.{Placed, recordsOf, dataEnd, Each}
+use Rattle.lut_run_meaning.specs.Run.{Placed, recordsOf, dataEnd}
 use Rattle.lut_run_meaning.proofs.Writing.{words-length}
 
 -- where the data of a curve end, by the words of its record

@@ -8,13 +8,14 @@ use mathlib.Core.List.{List, [], _∷_}
 use lib.Dec.{ltb}
 use lib.ListN.{length, drop, length-drop}
 use borrow.Author.Tests.{ltb-false}
+use Rattle.icc.specs.Each.{Each}
 use Rattle.fields.proofs.Never.{never}
 use Rattle.fields.specs.Checked.{Checked, good, bad}
 use Rattle.curve_meaning.specs.Curve.{curveOf}
 use Rattle.curve_meaning.specs.Shape.{Shape, sizeOf, stepOf}
 use Rattle.curve_meaning.specs.declared.Walk.{Walk}
 use Rattle.curve_meaning.proofs.Inside.{curve-inside}
-use Rattle.lut_run_meaning.specs.Run.{Placed, whole, Run, placed, done, stops, first, aligned, curveAtOffset, follow, runAt, CurveStands, Each}
+use Rattle.lut_run_meaning.specs.Run.{Placed, whole, Run, placed, done, stops, first, aligned, curveAtOffset, follow, runAt, CurveStands}
 
 -- a curve that is seen at an offset of the tag is what the bytes there say, and 12 of them there are
 pub entry-there : (limit : ℕ) (t : List ℕ) (at : ℕ) (s : Shape) → curveAtOffset limit t at ≡ good s → (at + 12 ≤ length t) × (curveOf limit (drop at t) ≡ good s)

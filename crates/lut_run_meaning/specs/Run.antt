@@ -74,8 +74,3 @@ recordsOf (c ∷ cs) = wordsOf (c .at + tagSize) (c .shape) ++ recordsOf cs
 -- where a record's data end, by its words: an entry of a table (kind 1) has two bytes, a parameter four
 abbrev pub dataEnd : List ℕ → ℕ
 dataEnd words = getD words 1 0 + cond (eqb (getD words 0 0) 1) 2 4 * getD words 2 0
-
--- a condition on each of a list
-unfoldable pub Each : {A : Type 0} → (A → Type 0) → List A → Type 0
-Each P [] = Unit
-Each P (c ∷ cs) = P c × Each P cs

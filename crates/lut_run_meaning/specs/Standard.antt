@@ -3,12 +3,13 @@ use Prim.Native.Nat.{ℕ, _+_, _*_, _<_}
 use mathlib.Core.Path.{_≡_}
 use mathlib.Core.List.{List, [], _∷_, _++_, map}
 use lib.ListN.{getD}
+use Rattle.icc.specs.Each.{Each}
 use Rattle.icc.specs.Elements.{PlacedCurve, CurvesFrom}
 use Rattle.curve_meaning.specs.Shape.{empty, recordWords}
 use Rattle.curve_meaning.specs.Standard.{shapeOf, Fits, recordTold}
 use Rattle.curve_meaning.specs.declared.Walk.{Walk}
 use Rattle.curve_meaning.specs.declared.Walk.the-variants.{Crate, Book}
-use Rattle.lut_run_meaning.specs.Run.{Placed, placed, Each}
+use Rattle.lut_run_meaning.specs.Run.{Placed, placed}
 
 -- a curve that the standard writes at an offset is answered as its shape there
 abbrev pub seenOf : PlacedCurve → Placed

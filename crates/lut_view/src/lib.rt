@@ -1,5 +1,8 @@
 // A view of the colour table of a lookup table: it keeps the lent tag and plain numbers, and one entry is read at a grid index. The work
-// is in `entry_at`, which takes the tag and the numbers apart from each other.
+// is in `entry_at`, which takes the tag and the numbers apart from each other. Where the grid bytes stand:
+//
+//   mft1, mft2   byte 10 is the grid points of every dimension, so each next grid byte is the same one
+//   mAB , mBA    16 grid bytes, one a dimension, the bytes of an entry and 3 reserved, then the entries
 use fields::InTag;
 use lut_meaning::LutAnswer;
 pub use lut_view_meaning::EntryAnswer;
@@ -9,8 +12,18 @@ ghost use mathlib.Core.Path.{_≡_};
 ghost use Prim.Native.Nat.{_-_, _^_, _<_};
 ghost use Rattle.lut_meaning.specs.Answer.{stateFrom};
 ghost use Rattle.lut_view_meaning.specs.Answer.{inNumbers};
-ghost use Rattle.lut_view_meaning.specs.View.{noNumbers, numbersOf, gridFrom, tableBy, entryFrom, entryOf};
+ghost use Rattle.lut_view_meaning.specs.View.{clutHead, noNumbers, numbersOf, gridFrom, tableBy, entryFrom, entryOf};
 ghost use Rattle.lut_view.specs.Point.{pointAt, Appended};
+
+// Where the one grid byte of `mft1` and `mft2` stands, and the step from it to the next.
+const MFT_GRID: u64 = 10;
+
+const MFT_STEP: u8 = 0;
+
+// How far before the entries those of `mAB ` and `mBA ` stand, and their step.
+const CLUT_HEAD: u64 = 20;
+
+const CLUT_STEP: u8 = 1;
 
 // The number of a grid point.
 enum Point {
@@ -18,17 +31,18 @@ enum Point {
     Nowhere,
 }
 
-// The sixteen grid bytes of `mAB ` and `mBA ` and four more stand before the entries.
+// The grid bytes of a colour table of `mAB ` and `mBA `, by where its entries start.
 fn grid_before(start: InTag) -> InTag
-    ensures { λ r. ⌜ r .0 ≡ start .0 - 20 ⌝ }
+    ensures { λ r. ⌜ r .0 ≡ start .0 - clutHead ⌝ }
 {
-    if start.0 < 20 {
+    if start.0 < CLUT_HEAD {
         return InTag(0);
     }
-    InTag(start.0 - 20)
+    InTag(start.0 - CLUT_HEAD)
 }
 
-fn no_table() -> TableNumbers
+// The numbers of no colour table.
+fn no_numbers() -> TableNumbers
     ensures { λ r. ⌜ r ≡ noNumbers ⌝ }
 {
     TableNumbers {
@@ -41,7 +55,7 @@ fn no_table() -> TableNumbers
     }
 }
 
-// The numbers of the colour table of an answer. `mft1` and `mft2` have one grid byte for all dimensions.
+// The numbers of the colour table of an answer.
 pub fn numbers_of(answer: LutAnswer) -> TableNumbers
     ensures { λ r. ⌜ r ≡ numbersOf (stateFrom answer) ⌝ }
 {
@@ -53,8 +67,8 @@ pub fn numbers_of(answer: LutAnswer) -> TableNumbers
                 entry_size: table.entry_size,
                 inputs: table.inputs,
                 outputs: table.outputs,
-                grid_at: InTag(10),
-                grid_step: 0,
+                grid_at: InTag(MFT_GRID),
+                grid_step: MFT_STEP,
             }
         }
         LutAnswer::Abm(table) => {
@@ -65,11 +79,11 @@ pub fn numbers_of(answer: LutAnswer) -> TableNumbers
                 inputs: table.inputs,
                 outputs: table.outputs,
                 grid_at: grid_before(start),
-                grid_step: 1,
+                grid_step: CLUT_STEP,
             }
         }
-        LutAnswer::Absent => no_table(),
-        LutAnswer::Refused(_) => no_table(),
+        LutAnswer::Absent => no_numbers(),
+        LutAnswer::Refused(_) => no_numbers(),
     }
 }
 

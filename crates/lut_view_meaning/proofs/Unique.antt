@@ -5,15 +5,10 @@ use mathlib.Core.List.{List}
 use Prim.Native.Nat.{ℕ}
 use denote.Ref.{RefT}
 use Rattle.fields.proofs.Once.{once}
-use Rattle.lut_view_meaning.specs.Answer.{Answer, value, absent, inNumbers}
+use Rattle.lut_view_meaning.specs.Answer.{Answer, inNumbers, resultFrom}
 use Rattle.lut_view_meaning.specs.declared.EntryAnswer.{EntryAnswer}
 use Rattle.lut_view_meaning.specs.declared.TableNumbers.{TableNumbers}
 use Rattle.lut_view_meaning.specs.declared.TableView.{TableView}
-
--- the result that stands for an answer
-abbrev resultFrom : Answer → EntryAnswer
-resultFrom (value n) = EntryAnswer.Value n
-resultFrom absent = EntryAnswer.Absent
 
 back : (r : EntryAnswer) → resultFrom (inNumbers r) ≡ r
 back (EntryAnswer.Value n) = refl

@@ -11,3 +11,8 @@ pub data Answer : Type 0 where
 abbrev pub inNumbers : EntryAnswer → Answer
 inNumbers (EntryAnswer.Value n) = value n
 inNumbers EntryAnswer.Absent = absent
+
+-- and the result that stands for numbers
+abbrev pub resultFrom : Answer → EntryAnswer
+resultFrom (value n) = EntryAnswer.Value n
+resultFrom absent = EntryAnswer.Absent

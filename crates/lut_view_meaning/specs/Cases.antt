@@ -18,10 +18,6 @@ unfoldable pub Holds : Case → Type 0
 Holds (reads t v index channel a) = entryOf t (tableBy t v) index channel ≡ a
 Holds (numbers s v) = numbersOf s ≡ v
 
-unfoldable pub All : List Case → Type 0
-All [] = Unit
-All (c ∷ cs) = Holds c × All cs
-
 -- the colour table of an `mAB ` tag alone: two points in each of three dimensions, three outputs, the entries 0 to 23 of one byte
 abbrev pub cube : List ℕ
 cube =

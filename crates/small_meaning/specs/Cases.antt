@@ -17,10 +17,6 @@ unfoldable pub Holds : Case → Type 0
 Holds (gives reader profile entry size a) = reader profile entry size ≡ a
 Holds (says flag full) = fullRange flag ≡ full
 
-unfoldable pub All : List Case → Type 0
-All [] = Unit
-All (c ∷ cs) = Holds c × All cs
-
 -- four bytes of a profile, and behind them a tag: four letters, four reserved bytes and the rest
 abbrev pub profileOf : ℕ → ℕ → ℕ → ℕ → List ℕ → List ℕ
 profileOf a b c d rest = 0xF0 ∷ 0xF1 ∷ 0xF2 ∷ 0xF3 ∷ a ∷ b ∷ c ∷ d ∷ 0xE0 ∷ 0xE1 ∷ 0xE2 ∷ 0xE3 ∷ rest

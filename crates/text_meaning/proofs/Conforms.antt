@@ -13,6 +13,7 @@ use lib.Dec.{ltb, eqb}
 use lib.ListN.{length, getD, take, drop, replicate, length-append, length-drop, length-replicate, List·getD-append}
 use lib.Seq.{getD-drop, getD-take, drop-drop, drop-append-seam, length-take-le}
 use borrow.Author.Tests.{eq-eqb, ne-eqb, ltb-true, ltb-false, eqb-true, eqb-false}
+use Rattle.icc.specs.Each.{Each}
 use Rattle.icc.specs.Numbers.{be32, each16, Is32, Each16, Bytes}
 use Rattle.icc.specs.Text.{Ascii, Utf16, terminated, textType, asciiPart, unicodePart, scriptPart, UnicodeString, no-string, characters, unicodeString, IsUnicode, Description, textDescriptionType, IsDescription, Localized, recordElement, recordElements, localizedHead, StringsAt, LocalizedTag}
 use Rattle.fields.proofs.Written.{halvesAt, halves-length, half-at, half-drop, halves-drop, halves-written, halves-below, read16, read32, word-drop, length16, below16, below32, part-bytes, then16, then32, row8, row16}
@@ -23,7 +24,7 @@ use Rattle.text_meaning.specs.Answer.{Answer, text, desc, mluc, Span, sp
 use Rattle.text_meaning.specs.Cut.{byteOf, unitOf}
 use Rattle.text_meaning.specs.Layout.{unicodeLanguage, unicodeCount, unicodeStart}
 use Rattle.text_meaning.specs.Mluc.{Localized as Placed, RecordsRead, whole, even, recordsAsked, recordsIn, recordWords, wordsIn}
-use Rattle.text_meaning.specs.Standard.{TagInside, tagIn, NoZeroLast, BeginsText, unicodeTold, descriptionTold, CutShort, no-count, no-units, UnicodeTaken, none, some, short, BeginsDescription, AllFit, Asked, localizedTold, StringTaken, StringsTaken, BeginsLocalized, ReadLocalized}
+use Rattle.text_meaning.specs.Standard.{TagInside, tagIn, NoZeroLast, BeginsText, unicodeTold, descriptionTold, CutShort, no-count, no-units, UnicodeTaken, none, some, short, BeginsDescription, Fits, Asked, localizedTold, StringTaken, StringsTaken, BeginsLocalized, ReadLocalized}
 use Rattle.text_meaning.specs.Text.{byType, stringOf, slotsAfter}
 use Rattle.text_meaning.proofs.Cutting.{string-cut, cut-string}
 use Rattle.text_meaning.proofs.Found.{Value, in-profile, found}
@@ -65,13 +66,13 @@ text-begun t b s h =
 
 -- zeros are numbers of 16 bits
 zeros-fit : (us : List ℕ) (k : ℕ) → Each16 us → Each16 (us ++ replicate k 0)
-unfolding Each16
+unfolding Each
 zeros-fit [] zero h = tt
 zeros-fit [] (suc k) h = (omega arith, zeros-fit [] k tt)
 zeros-fit (u ∷ us) k (h, hs) = (h, zeros-fit us k hs)
 
 take-fit : (n : ℕ) (us : List ℕ) → Each16 us → Each16 (take n us)
-unfolding Each16
+unfolding Each
 take-fit zero us h = tt
 take-fit (suc n) [] h = tt
 take-fit (suc n) (u ∷ us) (h, hs) = (h, take-fit n us hs)
@@ -106,7 +107,7 @@ module _ (t : List ℕ) (at : ℕ) (within : at ≤ length t) where
       }
 
   unicode-laid : (u : Unicode) → UnicodeTaken (at + 8) part u → UnicodeWhole t at u ⊎ UnicodeShort t at u
-  unfolding Each16
+  unfolding Each
   unicode-laid u (none language rest f e a) =
       let s = stood language [] rest f (omega arith) tt e in
       inl record {
@@ -291,7 +292,7 @@ module _ (t : List ℕ) where
       }
 
   row-laid : (k : ℕ) (ls : List Localized) (rest : List ℕ) → drop (16 + 12 * k) t ≡ recordElements ls ++ rest → StringsTaken t ls → Row (RecordTaken t) k (map placed ls)
-  unfolding Row recordElements StringsTaken recordElement
+  unfolding Row recordElements Each recordElement
   row-laid k [] rest e h = tt
   row-laid k (l ∷ ls) rest e (h, hs) =
       let next : 16 + 12 * k + 12 ≡ 16 + 12 * (k + 1) = omega arith in
@@ -354,7 +355,7 @@ module _ (t : List ℕ) where
         }
 
     strings-begun : (k : ℕ) (rs : List Placed) → Row (RecordTaken t) k rs → StringsTaken t (localizedFrom k rs)
-    unfolding localizedFrom Row StringsTaken
+    unfolding localizedFrom Row Each
     strings-begun k [] h = tt
     strings-begun k (r ∷ rs) (h, hs) = (string-begun k (h .string-in-tag), strings-begun (k + 1) rs hs)
 
@@ -394,7 +395,7 @@ module _ (t : List ℕ) where
 -- ---- what the standards write is taken
 
 ascii-cut : (cs : List ℕ) → Ascii cs → NoZeroLast cs
-unfolding Ascii
+unfolding Each
 ascii-cut cs h front e = by front (subst Ascii e h)
   where
     by : (front : List ℕ) → Ascii (front ++ (0 ∷ [])) → ⊥
@@ -402,7 +403,7 @@ ascii-cut cs h front e = by front (subst Ascii e h)
     by (c ∷ front) (h, hs) = by front hs
 
 unicode-cut : (cs : List ℕ) → Utf16 cs → NoZeroLast cs
-unfolding Utf16
+unfolding Each
 unicode-cut cs h front e = by front (subst Utf16 e h)
   where
     by : (front : List ℕ) → Utf16 (front ++ (0 ∷ [])) → ⊥
@@ -410,7 +411,7 @@ unicode-cut cs h front e = by front (subst Utf16 e h)
     by (c ∷ front) (h, hs) = by front hs
 
 unicode-fits : (cs : List ℕ) → Utf16 cs → Each16 cs
-unfolding Utf16 Each16
+unfolding Each
 unicode-fits [] h = tt
 unicode-fits (c ∷ cs) (h, hs) = (h .1, unicode-fits cs hs)
 
@@ -441,8 +442,8 @@ desc-begins t reserved d rest h e =
       unicode = unicode-begins _ (d .language) (d .unicode) (s ++ rest) (h .language) (h .unicode) (h .unicode-count);
     }
 
-strings-begin : (t : List ℕ) (ls : List Localized) → StringsAt t ls → AllFit ls → StringsTaken t ls
-unfolding StringsAt AllFit StringsTaken
+strings-begin : (t : List ℕ) (ls : List Localized) → StringsAt t ls → Each Fits ls → StringsTaken t ls
+unfolding Each
 strings-begin t [] h f = tt
 strings-begin t (l ∷ ls) (h, hs) (f, fs) = (
   record {

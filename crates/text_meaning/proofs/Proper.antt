@@ -5,16 +5,17 @@ use native.Mathlib.Omega.{arith}
 use mathlib.Core.Path.{_≡_, refl}
 use mathlib.Core.List.{List, [], _∷_}
 use lib.ListN.{replicate}
-use Rattle.icc.specs.Numbers.{each16, Each16}
-use Rattle.icc.specs.Text.{Ascii, Utf16, terminated, textType, asciiPart, unicodePart, scriptPart, characters, unicodeString, IsUnicode, Description, textDescriptionType, IsDescription, Localized, recordElement, recordElements, localizedHead, StringsAt, LocalizedTag}
+use Rattle.icc.specs.Each.{Each}
+use Rattle.icc.specs.Numbers.{each16}
+use Rattle.icc.specs.Text.{Ascii, terminated, textType, asciiPart, unicodePart, scriptPart, characters, unicodeString, IsUnicode, Description, textDescriptionType, IsDescription, Localized, recordElement, recordElements, localizedHead, LocalizedTag}
 use Rattle.text_meaning.specs.Cases.{word, mlucTag, english, fullText, fullDesc, fullMluc}
-use Rattle.text_meaning.specs.Standard.{AllFit, Asked}
+use Rattle.text_meaning.specs.Standard.{Asked}
 
 abbrev abc : List ℕ
 abc = 0x41 ∷ 0x42 ∷ 0x43 ∷ []
 
 abc-ascii : Ascii abc
-unfolding Ascii
+unfolding Each
 abc-ascii = ((omega arith, omega arith), ((omega arith, omega arith), ((omega arith, omega arith), tt)))
 
 pub text-proper : Ascii abc × (fullText ≡ textType 0x01020304 (terminated abc))
@@ -25,7 +26,7 @@ abbrev described : Description
 described = record { ascii = abc; language = 0x05060708; unicode = characters (0x0944 ∷ 0x0A45 ∷ []); scriptCode = 0x0B0C; scriptCount = 13; script = replicate 67 14 }
 
 pub desc-proper : IsDescription described × (fullDesc ≡ textDescriptionType 0x01020304 described)
-unfolding Utf16 IsUnicode textDescriptionType asciiPart unicodePart scriptPart unicodeString each16
+unfolding Each IsUnicode textDescriptionType asciiPart unicodePart scriptPart unicodeString each16
 desc-proper = (
   record {
     ascii = abc-ascii;
@@ -45,7 +46,7 @@ abbrev deAT : Localized
 deAT = record { language = 0x6465; country = 0x4154; bytes = 4; offset = 40; units = 0x0541 ∷ 0x0642 ∷ [] }
 
 unfoldable pub localized : LocalizedTag fullMluc
-unfolding localizedHead recordElements recordElement StringsAt Each16 each16
+unfolding localizedHead recordElements recordElement Each each16
 localized =
     record {
       reserved = 0x01020304;
@@ -66,7 +67,7 @@ localized =
     }
 
 pub mluc-proper : Asked localized
-unfolding localized AllFit
+unfolding localized Each
 mluc-proper =
     record {
       some-record = omega arith;
@@ -79,7 +80,7 @@ abbrev nothing : Localized
 nothing = record { language = 0x656E; country = 0x5553; bytes = 0; offset = 28; units = [] }
 
 unfoldable pub smallest : LocalizedTag (mlucTag (word 1) (english (word 0) (word 28)))
-unfolding localizedHead recordElements recordElement StringsAt Each16 each16
+unfolding localizedHead recordElements recordElement Each each16
 smallest =
     record {
       reserved = 0;
@@ -89,6 +90,6 @@ smallest =
     }
 
 pub smallest-proper : Asked smallest
-unfolding smallest AllFit
+unfolding smallest Each
 smallest-proper =
     record { some-record = omega arith; count-fits = omega arith; fit = (record { language = omega arith; country = omega arith; bytes = omega arith; offset = omega arith }, tt) }

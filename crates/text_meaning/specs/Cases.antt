@@ -16,10 +16,6 @@ Holds (gives profile size slots a left) =
     (stringOf profile 0 size (length slots) ≡ a)
     × (slotsAfter profile 0 size slots ≡ left)
 
-unfoldable pub All : List Case → Type 0
-All [] = Unit
-All (c ∷ cs) = Holds c × All cs
-
 -- four bytes with the number n < 256
 abbrev pub word : ℕ → List ℕ
 word n = 0 ∷ 0 ∷ 0 ∷ n ∷ []

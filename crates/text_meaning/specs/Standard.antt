@@ -7,6 +7,7 @@ use mathlib.Core.List.{List, [], _∷_, _++_}
 use mathlib.Core.Logic.{_⊎_}
 use lib.Dec.{eqb}
 use lib.ListN.{length, take, drop, replicate}
+use Rattle.icc.specs.Each.{Each}
 use Rattle.icc.specs.Elements.{Stands}
 use Rattle.icc.specs.Numbers.{be32, each16, Is16, Is32, Each16}
 use Rattle.icc.specs.Text.{textType, asciiPart, unicodePart, UnicodeString, no-string, characters, Description, Localized, localizedHead, LocalizedTag}
@@ -84,15 +85,11 @@ pub record Fits (l : Localized) : Type 0 where
   pub bytes : Is32 (l .bytes)
   pub offset : Is32 (l .offset)
 
-unfoldable pub AllFit : List Localized → Type 0
-AllFit [] = Unit
-AllFit (l ∷ ls) = Fits l × AllFit ls
-
 -- what is asked of a tag: a record at least
 pub record Asked {t : List ℕ} (tag : LocalizedTag t) : Type 0 where
   pub some-record : 1 ≤ length (tag .records)
   pub count-fits : Is32 (length (tag .records))
-  pub fit : AllFit (tag .records)
+  pub fit : Each Fits (tag .records)
 
 -- the words of the records: language, country, where the string starts, and the bytes of its units
 unfoldable pub localizedTold : List Localized → List ℕ
@@ -109,9 +106,8 @@ pub record StringTaken (t : List ℕ) (l : Localized) : Type 0 where
   pub in-tag : l .offset ≤ length t
   pub stands : Stands t (l .offset) (each16 (l .units) ++ odd)
 
-unfoldable pub StringsTaken : List ℕ → List Localized → Type 0
-StringsTaken t [] = Unit
-StringsTaken t (l ∷ ls) = StringTaken t l × StringsTaken t ls
+abbrev pub StringsTaken : List ℕ → List Localized → Type 0
+StringsTaken t ls = Each (StringTaken t) ls
 
 -- a count of 0 is taken for 1, and any record size for 12
 pub record BeginsLocalized (t : List ℕ) (ls : List Localized) : Type 0 where

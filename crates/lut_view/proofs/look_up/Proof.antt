@@ -57,9 +57,9 @@ use Rattle.lut_view_meaning.proofs.TableView as T
 use Rattle.lut_view_meaning.proofs.TableView.Laws as T′
 use Rattle.lut_view.proofs.entry_at as callee
 use Rattle.lut_view.proofs.entry_at.Symbol as callee-def
-use Rattle.lut_view.proofs.entry_at.Symbol.{name as #table·entry-at}
+use Rattle.lut_view.proofs.entry_at.Symbol.{name as #lut-view·entry-at}
 use Rattle.lut_view.proofs.entry_at.Met as callee-thm
-use Rattle.lut_view.proofs.look_up.Key.{name as #table·look-up}
+use Rattle.lut_view.proofs.look_up.Key.{name as #lut-view·look-up}
 use Rattle.lut_view.proofs.look_up as this
 use Rattle.lut_view.proofs.look_up.Statement as stated
 use Rattle.lut_view.proofs.look_up.Code as code
@@ -154,7 +154,7 @@ module _ {M : Type 1} (𝓤 : URA M) (H : Heap 𝓤) (A : Atoms 𝓤) (W : Given
       -- [what the struct owns; what the index owns; the result]
       nothing ! $ owned ! u8 (Is u8) (uint-makes 𝓤 H A W w8) ch _ (refl, gc) $ fjoin ! $ move ! (2 ∷ 0 ∷ []) $ fjoin ! $ move ! (1 ∷ 0 ∷ []) $ fjoin ! $ frame ! $ done !
 
-  module _ (C : Calls 𝓤 H) (Λ : Loops 𝓤 H) (fm : FmC 𝓤 H (W .laws) C) (known : Triple 𝓤 (C #table·entry-at) (Callee 𝓤 H A mem run)) where
+  module _ (C : Calls 𝓤 H) (Λ : Loops 𝓤 H) (fm : FmC 𝓤 H (W .laws) C) (known : Triple 𝓤 (C #lut-view·entry-at) (Callee 𝓤 H A mem run)) where
     walk : Holds (hasTy (T′.mir (named 0)) mach) × WT mach → Is N.the-row (d .numbers) (n ∷ []) → Is (ShrSlice (named 1) κ′ u8) x (w ∷ []) → ch < 2 ^ 8 → ent 𝓤 (onEntry 𝓤 H A this.signature κs (q, (q′, tt)) (d, (x, (ch, tt))) at) (WpFn 𝓤 H C Λ code.function (mach ∷ w ∷ vint w8 ch ∷ []) Post)
     walk wt gn px gc =
         qed W (raw (onEntry 𝓤 H A this.signature κs (q, (q′, tt)) (d, (x, (ch, tt))) at) ∷ []) ∵ enter ! C Λ code.function (mach ∷ w ∷ vint w8 ch ∷ []) _ $
@@ -176,13 +176,13 @@ module _ {M : Type 1} (𝓤 : URA M) (H : Heap 𝓤) (A : Atoms 𝓤) (W : Given
         by ! (exits gc r u e)))))))))))
 
 module _ {M : Type 1} (𝓤 : URA M) (H : Heap 𝓤) (A : Atoms 𝓤) (W : Given 𝓤 H A) (mem : Memory → SProp 𝓤) (run : Routine → Fun 𝓤) where
-  walks : (C : Calls 𝓤 H) (Λ : Loops 𝓤 H) → FmC 𝓤 H (W .laws) C → Triple 𝓤 (C #table·entry-at) (Callee 𝓤 H A mem run)
+  walks : (C : Calls 𝓤 H) (Λ : Loops 𝓤 H) → FmC 𝓤 H (W .laws) C → Triple 𝓤 (C #lut-view·entry-at) (Callee 𝓤 H A mem run)
       → Walks 𝓤 H A this.ended stayed (WpFn 𝓤 H C Λ code.function) (this.clauses 𝓤 H A mem run)
   walks C Λ fm known = walked 𝓤 H A this.ended stayed (this.clauses 𝓤 H A mem run) (WpFn 𝓤 H C Λ code.function) (λ κs. (LL.vals (D κs) (L κs), (slice-vals, (uint-vals w8, tt)))) (λ κs. (LL.tells (D κs) (L κs), (shr-slice-tells (named 1) (κs .1 .0) u8, (uint-tells w8, tt))))
       (λ κs qs bounds a g are. via 𝓤 _ (fst∗ 𝓤 _ (emp 𝓤)) (walk 𝓤 H A W mem run (κs .0) (κs .1 .0) (qs .0) (qs .1 .0) (a .0) (a .1 .0) (a .1 .1 .0) C Λ fm known (LL.lawful (D κs) (L κs) 𝓤 H A W .typed (a .0) _ (are .0) .0) (LL.owed (D κs) (L κs) (a .0) _ (are .0) .1 .0) (are .1 .0) (are .1 .1 .0 .1)))
 
 meets : {M : Type 1} (𝓤 : URA M) (H : Heap 𝓤) (A : Atoms 𝓤) (W : Given 𝓤 H A) (mem : Memory → SProp 𝓤) (run : Routine → Fun 𝓤) (𝓣 : Tables 𝓤 H)
-    → Triple 𝓤 (𝓣 .C #table·entry-at) (Callee 𝓤 H A mem run)
+    → Triple 𝓤 (𝓣 .C #lut-view·entry-at) (Callee 𝓤 H A mem run)
     → Meets 𝓤 H A this.signature (WpFn 𝓤 H (𝓣 .C) (𝓣 .Λ) code.function) (this.spec 𝓤 H A mem run)
 meets 𝓤 H A W mem run 𝓣 known = walk-meets 𝓤 H A this.ended stayed W (goes-none 𝓤 H A W 2 B yes (λ κs x f. refl), (goes-none-slice 𝓤 H A W 2 (1 ∷ []) tt (plain (λ _. u8)) yes, (goes-none 𝓤 H A W 2 (λ _. u8) yes (λ κs x f. refl), tt))) (this.clauses 𝓤 H A mem run) (WpFn 𝓤 H (𝓣 .C) (𝓣 .Λ) code.function) (WpFn-mono 𝓤 H (W .laws) 𝓣 code.function)
     (walks 𝓤 H A W mem run (𝓣 .C) (𝓣 .Λ) (fmOf 𝓤 H (W .laws) 𝓣) known)
@@ -191,6 +191,6 @@ pub look-up-spec : {M : Type 1} → stated.statement M
 unfolding code.routine tablesOf
 look-up-spec 𝓤 H 𝓜 𝓖 𝓡 =
     entered 𝓤 H (tripleOf 𝓤 H (𝓖 .A) this.signature (this.spec 𝓤 H (𝓖 .A) (𝓜 .mem) (𝓡 .run)))
-    (tables 𝓤 H 𝓜 𝓡 code.env .C) (tables 𝓤 H 𝓜 𝓡 code.env .Λ) #table·look-up code.function (code.unfolded 𝓤 H 𝓜 𝓡)
+    (tables 𝓤 H 𝓜 𝓡 code.env .C) (tables 𝓤 H 𝓜 𝓡 code.env .Λ) #lut-view·look-up code.function (code.unfolded 𝓤 H 𝓜 𝓡)
     (meets 𝓤 H (𝓖 .A) (givenOf 𝓤 H 𝓜 𝓖) (𝓜 .mem) (𝓡 .run) (tablesOf 𝓤 H 𝓜 (tables 𝓤 H 𝓜 𝓡 code.env))
-    (cited 𝓤 H (Callee 𝓤 H (𝓖 .A) (𝓜 .mem) (𝓡 .run)) 𝓜 𝓡 code.env #table·entry-at callee-def.routine code.calls-table·entry-at (callee-thm.met 𝓤 H 𝓜 𝓖 𝓡)))
+    (cited 𝓤 H (Callee 𝓤 H (𝓖 .A) (𝓜 .mem) (𝓡 .run)) 𝓜 𝓡 code.env #lut-view·entry-at callee-def.routine code.calls-lut-view·entry-at (callee-thm.met 𝓤 H 𝓜 𝓖 𝓡)))

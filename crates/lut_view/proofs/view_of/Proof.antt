@@ -40,7 +40,7 @@ use Rattle.lut_view_meaning.proofs.TableNumbers as N
 use Rattle.lut_view_meaning.proofs.TableNumbers.Laws as N′
 use Rattle.lut_view_meaning.proofs.TableView as T
 use Rattle.lut_view_meaning.proofs.TableView.Laws as T′
-use Rattle.lut_view.proofs.view_of.Key.{name as #table·view-of}
+use Rattle.lut_view.proofs.view_of.Key.{name as #lut-view·view-of}
 use Rattle.lut_view.proofs.view_of as this
 use Rattle.lut_view.proofs.view_of.Statement as stated
 use Rattle.lut_view.proofs.view_of.Code as code
@@ -105,5 +105,5 @@ pub view-of-spec : {M : Type 1} → stated.statement M
 unfolding code.routine tablesOf
 view-of-spec 𝓤 H 𝓜 𝓖 𝓡 =
     entered 𝓤 H (tripleOf 𝓤 H (𝓖 .A) this.signature (this.spec 𝓤 H (𝓖 .A) (𝓜 .mem) (𝓡 .run)))
-    (tables 𝓤 H 𝓜 𝓡 code.env .C) (tables 𝓤 H 𝓜 𝓡 code.env .Λ) #table·view-of code.function (code.unfolded 𝓤 H 𝓜 𝓡)
+    (tables 𝓤 H 𝓜 𝓡 code.env .C) (tables 𝓤 H 𝓜 𝓡 code.env .Λ) #lut-view·view-of code.function (code.unfolded 𝓤 H 𝓜 𝓡)
     (meets 𝓤 H (𝓖 .A) (givenOf 𝓤 H 𝓜 𝓖) (𝓜 .mem) (𝓡 .run) (tablesOf 𝓤 H 𝓜 (tables 𝓤 H 𝓜 𝓡 code.env)))
