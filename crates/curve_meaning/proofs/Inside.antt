@@ -17,7 +17,7 @@ use Rattle.curve_meaning.specs.Shape.{Shape, empty, table, para, sizeOf,
 use Rattle.curve_meaning.specs.declared.Walk.{Walk}
 use Rattle.curve_meaning.specs.declared.Walk.the-variants.{Crate, Book}
 use Rattle.curve_meaning.proofs.Laid.{Laid, laid}
-use Rattle.curve_meaning.proofs.Told.{Told, told}
+use Rattle.curve_meaning.proofs.Answered.{FromCurve, from-curve}
 
 -- ---- one curve
 
@@ -57,7 +57,7 @@ book-step (para type ps) = refl
 
 -- what stands behind a value
 pub record Accepted (walk : Walk) (limit : ℕ) (p : List ℕ) (entry size : ℕ) (ws : List ℕ) (consumed : ℕ) : Type 0 where
-  pub curve : Told walk 12 (curveOf limit (tagOf p entry size)) ws consumed
+  pub curve : FromCurve walk 12 (curveOf limit (tagOf p entry size)) ws consumed
   pub curve-in-tag : sizeOf (curve .shape) ≤ length (tagOf p entry size)
   pub tag-in-profile : entry + size ≤ length p
 
@@ -77,5 +77,5 @@ module _ (walk : Walk) (limit : ℕ) (p : List ℕ) (entry size : ℕ) where
   pub accepted-inside : (ws : List ℕ) (consumed : ℕ) → trcOf walk limit p entry size ≡ value ws consumed → Accepted walk limit p entry size ws consumed
   accepted-inside ws consumed h =
       let b = behind ws consumed (sym h) in
-      let c = told walk 12 (curveOf limit (tagOf p entry size)) (b .1) in
+      let c = from-curve walk 12 (curveOf limit (tagOf p entry size)) (b .1) in
       record { curve = c; curve-in-tag = curve-inside limit (tagOf p entry size) (c .shape) (c .seen); tag-in-profile = b .0 }

@@ -1,4 +1,4 @@
-pub mod Told
+pub mod Answered
 pub mod Unique
 pub mod Laid
 pub mod Inside
