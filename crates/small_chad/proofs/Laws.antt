@@ -1,11 +1,11 @@
--- The layout and the meaning case by case, as the code meets them: each law takes what the tests and the calls on the way told.
+-- The meaning case by case, as the code meets them: each law takes what the tests and the calls on the way told.
 -- Assumes nothing.
 use Prim.Native.Nat.{ℕ, _-_, _/_, _≤_, _<_}
 use mathlib.Core.Path.{_≡_}
-use mathlib.Core.List.{List, [], _∷_}
+use mathlib.Core.List.{List}
 use lib.ListN.{length, take, drop}
 use borrow.Author.Tests.{eq-eqb, ne-eqb, lt-ltb, le-ltb}
-use Rattle.fields.specs.Bytes.{u32At, wordsAt}
+use Rattle.fields.specs.Bytes.{u32At}
 use Rattle.fields.specs.Place.{placeOf}
 use Rattle.fields.specs.Tag.{signatureOf}
 use Rattle.fields.specs.declared.Kind.the-variants.{Sf32}
@@ -15,10 +15,6 @@ use Rattle.fields.proofs.Located.{inside, past, part-is}
 use Rattle.small_meaning.specs.Answer.{Answer, value, absent, refused}
 use Rattle.small_meaning.specs.Layout.{nineNumbers}
 use Rattle.small_meaning.specs.Small.{matrixOf, chadOf}
-
-pub nine-are : (t : List ℕ) (a b c d e f g h i : ℕ) → a ≡ u32At t 8 → b ≡ u32At t 12 → c ≡ u32At t 16 → d ≡ u32At t 20 → e ≡ u32At t 24 → f ≡ u32At t 28 → g ≡ u32At t 32 → h ≡ u32At t 36 → i ≡ u32At t 40 → a ∷ b ∷ c ∷ d ∷ e ∷ f ∷ g ∷ h ∷ i ∷ [] ≡ nineNumbers t
-unfolding nineNumbers wordsAt
-nine-are t a b c d e f g h i e₁ e₂ e₃ e₄ e₅ e₆ e₇ e₈ e₉ = simp (e₁, e₂, e₃, e₄, e₅, e₆, e₇, e₈, e₉)
 
 module _ (t : List ℕ) (w : ℕ) (h : w ≡ u32At t 0) where
   pub matrix-other : (w ≡ signatureOf Sf32 → ⊥) → refused 17 ≡ matrixOf t
