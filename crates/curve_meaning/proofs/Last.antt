@@ -10,6 +10,7 @@ use lib.ListN.{length, getD}
 use Rattle.fields.proofs.Never.{never}
 use Rattle.fields.specs.Checked.{Checked, good, bad}
 use Rattle.fields.specs.Bytes.{u32At}
+use Rattle.fields.specs.House.{tagSize}
 use Rattle.fields.specs.Tag.{signatureOf}
 use Rattle.fields.specs.declared.Kind.the-variants.{Curv, Para}
 use Rattle.fields.proofs.Choice.{each}
@@ -31,7 +32,7 @@ other n h e = h cc
 pub curve-not-14 : (limit : ℕ) (t : List ℕ) → Not14 (curveOf limit t)
 unfolding curveOf curvOf paraOf
 curve-not-14 limit t =
-    each Not14 (ltb (length t) 12) _ _ (λ _. other _ (λ z. omega arith))
+    each Not14 (ltb (length t) tagSize) _ _ (λ _. other _ (λ z. omega arith))
     (λ _. each Not14 (eqb (u32At t 0) (signatureOf Curv)) _ _
     (λ _. each Not14 (eqb (entryCount t) 0) _ _ (λ _. seen _)
     (λ _. each Not14 (ltb limit (entryCount t)) _ _ (λ _. other _ (λ z. omega arith))
@@ -54,6 +55,6 @@ trc-not-14 walk limit p entry size =
     let none : P absent = λ h. never cc in
     let no-other : (n : ℕ) → (n ≡ 14 → ⊥) → P (refused n) = λ n f h. f cc in
     each P (ltb (length p) (entry + 4)) _ _ (λ _. none)
-    (λ _. each P (leb 1 size && ltb size 12) _ _ (λ _. none)
+    (λ _. each P (leb 1 size && ltb size tagSize) _ _ (λ _. none)
     (λ _. each P (ltb (length p) (entry + size)) _ _ (λ _. no-other _ (λ z. omega arith))
-    (λ _. answer-not-14 walk 12 _ (curve-not-14 limit (tagOf p entry size)))))
+    (λ _. answer-not-14 walk tagSize _ (curve-not-14 limit (tagOf p entry size)))))

@@ -9,7 +9,7 @@ use lib.Dec.{ltb, leb, eqb}
 use lib.ListN.{length, getD, drop}
 use Rattle.fields.specs.Checked.{Checked, good, bad}
 use Rattle.fields.specs.Bytes.{u32At, bytesAt, wordsAt}
-use Rattle.fields.specs.Place.{tagAt, countedSize}
+use Rattle.fields.specs.Place.{tagAt, countedSize, countedTag}
 use Rattle.fields.specs.Refusals.{refusalNumber}
 use Rattle.fields.specs.Tag.{signatureOf}
 use Rattle.fields.specs.declared.Kind.the-variants.{Curv, Para, Text, Mluc, Desc, Sf32}
@@ -37,13 +37,13 @@ use Rattle.lut_meaning.specs.Parts.{runsChecked, matrixChecked}
 use Rattle.lut_meaning.proofs.Unique.{answerTo, lutTo}
 use Rattle.text_meaning.specs.Answer.{Answer as Text·Answer, inNumbers as Text·inNumbers}
 use Rattle.text_meaning.specs.Layout.{asciiEnd}
-use Rattle.text_meaning.specs.Mluc.{RecordsEnd as Mluc·RecordsEnd, whole as Mluc·whole, stopped as Mluc·stopped, header, string as string-fault, recordsIn, recordsAsked, recordWords as textWords}
-use Rattle.text_meaning.specs.Text.{stringOf, byType as Text·byType, textOf, mlucOf, descOf, endedBy, slottedOf, tagOf as Text·tagOf}
+use Rattle.text_meaning.specs.Mluc.{RecordsEnd as Mluc·RecordsEnd, whole as Mluc·whole, stopped as Mluc·stopped, header, string as string-fault, recordsIn, recordsAsked, textRecordWords as textWords}
+use Rattle.text_meaning.specs.Text.{stringOf, byType as Text·byType, textOf, mlucOf, descOf, endedBy, slottedOf}
 use Rattle.text_meaning.proofs.Unique.{resultTo as Text·resultTo}
 use Rattle.small_meaning.specs.Answer.{Answer as Small·Answer}
 use Rattle.small_meaning.specs.Layout.{nineNumbers, signatureIn, dateBytes, measurement, conditions, firstXyz, codePoints}
 use Rattle.small_meaning.specs.Order.{answerTo as Small·answerTo}
-use Rattle.small_meaning.specs.Small.{matrixOf, chadOf, windowOf, tripleOf}
+use Rattle.small_meaning.specs.Small.{chadMatrixOf, chadOf, windowOf, tripleOf}
 use Rattle.small_meaning.specs.declared.Found.{Found}
 use Rattle.lut_view_meaning.specs.Answer.{Answer, inNumbers as Table·inNumbers}
 use Rattle.lut_view_meaning.specs.View.{tableBy, entryOf}
@@ -72,7 +72,7 @@ by-order P Found.Other short other this a b c d = c
 by-order P (Found.Tag from to) short other this a b c d = d
 
 chad-shown : (p : List ℕ) (at size : ℕ) → Shown chad (chadOf p at size)
-unfolding Shown chadOf matrixOf nineNumbers wordsAt
+unfolding Shown chadOf chadMatrixOf nineNumbers wordsAt
 chad-shown p at size =
     let P = Shown chad in
     let t = tagAt p at size in
@@ -230,7 +230,7 @@ text-shown : (p : List ℕ) (at size words : ℕ) → Text·inNumbers (Text·res
 unfolding stringOf Text·byType textOf mlucOf descOf slottedOf
 text-shown p at size words =
     let P : Text·Answer → Type 0 = λ a. Text·inNumbers (Text·resultTo a) ≡ a in
-    let t = Text·tagOf p at size in
+    let t = countedTag p at size in
     each P (ltb (countedSize size) 4) _ _ (λ _. refl)
     (λ _. each P (ltb (length p) (at + countedSize size)) _ _ (λ _. refl)
     (λ _. each P (ltb (countedSize size) 8) _ _ (λ _. refl)

@@ -21,7 +21,7 @@ use Rattle.lut_clut_meaning.specs.Table.{Table, inGrid, entryNumber}
 use Rattle.curve_meaning.specs.Answer.{Answer as Curve·Answer}
 use Rattle.curve_meaning.specs.Curve.{tagOf as Curve·tagOf}
 use Rattle.curve_meaning.specs.Shape.{empty, wordsOf, recordWords}
-use Rattle.curve_meaning.specs.Standard.{Fits, recordTold, stepTold, Tag, Lone}
+use Rattle.curve_meaning.specs.Standard.{CurveFits, recordTold, stepTold, Tag, Lone}
 use Rattle.curve_meaning.specs.declared.Walk.{Walk}
 use Rattle.lut_run_meaning.specs.Run.{Placed, placed, CurveStands, dataEnd}
 use Rattle.lut_mft_meaning.specs.Answer.{Fields, toldTable as Mft·toldTable}
@@ -32,7 +32,7 @@ use Rattle.lut_meaning.specs.Layout.{planOf, recordsNeeded}
 use Rattle.lut_meaning.specs.Parts.{curvesOf}
 use Rattle.lut_meaning.specs.Standard.{Counts, answerTold, recordsWritten, PartsTaken, CurvesTaken, PartsAs, TagAs, PassesBy}
 use Rattle.text_meaning.specs.Answer.{Answer as Text·Answer, Span, span, Unicode}
-use Rattle.text_meaning.specs.Mluc.{recordsAsked, recordWords as textWords}
+use Rattle.text_meaning.specs.Mluc.{recordsAsked, textRecordWords as textWords}
 use Rattle.text_meaning.specs.Standard.{BeginsText, descriptionTold, BeginsDescription, Asked as MlucAsked, localizedTold, ReadLocalized}
 use Rattle.small_meaning.specs.Answer.{Answer as Small·Answer}
 use Rattle.small_meaning.specs.Standard.{signatureTold, someXyzType, firstTold, measurementTold, viewTold, cicpTold, WrittenRead, ReadWritten, BeginsNine, BeginsDate}
@@ -232,7 +232,7 @@ pub record Demand2 (l : Library) : Type 0 where
   -- one call, one answer
   pub once : (r : Reader) (c : Call) (x : Result r) → numbers r x ≡ meaning r c → x ≡ l .returns r c
   -- curveType and parametricCurveType
-  pub curve-read : (walk : Walk) (c : Call) (x : Curve) (rest : List ℕ) → Fits (c .entries) x → Tag (c .profile) (c .entry) (c .size) (curveElement x ++ rest) → answered l (trc walk) c ≡ Curve·Answer.value (recordTold 12 x) (stepTold walk x)
+  pub curve-read : (walk : Walk) (c : Call) (x : Curve) (rest : List ℕ) → CurveFits (c .entries) x → Tag (c .profile) (c .entry) (c .size) (curveElement x ++ rest) → answered l (trc walk) c ≡ Curve·Answer.value (recordTold 12 x) (stepTold walk x)
   pub curve-written : (walk : Walk) (c : Call) → Bytes (c .profile) → (ws : List ℕ) (consumed : ℕ) → answered l (trc walk) c ≡ Curve·Answer.value ws consumed → Lone walk (c .entries) (c .profile) (c .entry) (c .size) ws consumed
   -- lutAToBType and lutBToAType: the answer, and the records in the slots. The crate walk goes as the standard lays curves out where none but a
   -- run's last is empty (`CurvesTaken`, `PassesBy`); all else is as it is written on either walk

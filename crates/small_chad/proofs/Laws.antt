@@ -14,20 +14,20 @@ use Rattle.fields.specs.declared.Place.the-variants.{In, Past}
 use Rattle.fields.proofs.Located.{inside, past, part-is}
 use Rattle.small_meaning.specs.Answer.{Answer, value, absent, refused}
 use Rattle.small_meaning.specs.Layout.{nineNumbers}
-use Rattle.small_meaning.specs.Small.{matrixOf, chadOf}
+use Rattle.small_meaning.specs.Small.{chadMatrixOf, chadOf}
 
 module _ (t : List ℕ) (w : ℕ) (h : w ≡ u32At t 0) where
-  pub matrix-other : (w ≡ signatureOf Sf32 → ⊥) → refused 17 ≡ matrixOf t
-  unfolding matrixOf
+  pub matrix-other : (w ≡ signatureOf Sf32 → ⊥) → refused 17 ≡ chadMatrixOf t
+  unfolding chadMatrixOf
   matrix-other e = simp (← h, ne-eqb _ _ e)
 
   module _ (s : w ≡ signatureOf Sf32) where
-    pub matrix-size : (length t ≡ 44 → ⊥) → refused 17 ≡ matrixOf t
-    unfolding matrixOf
+    pub matrix-size : (length t ≡ 44 → ⊥) → refused 17 ≡ chadMatrixOf t
+    unfolding chadMatrixOf
     matrix-size e = simp (← h, eq-eqb _ _ s, ne-eqb _ _ e)
 
-    pub matrix-value : (ws : List ℕ) → length t ≡ 44 → ws ≡ nineNumbers t → value ws ≡ matrixOf t
-    unfolding matrixOf
+    pub matrix-value : (ws : List ℕ) → length t ≡ 44 → ws ≡ nineNumbers t → value ws ≡ chadMatrixOf t
+    unfolding chadMatrixOf
     matrix-value ws e n = simp (← h, eq-eqb _ _ s, eq-eqb _ _ e, n)
 
 module _ (p : List ℕ) (entry size : ℕ) (place : Place) (h : place ≡ placeOf (length p) entry size) where
@@ -49,7 +49,7 @@ module _ (p : List ℕ) (entry size : ℕ) (place : Place) (h : place ≡ placeO
       unfolding chadOf
       chad-count l n = simp (le-ltb _ _ (inside _ _ _ h e .fits), le-ltb _ _ (inside _ _ _ g f .fits), le-ltb _ _ l, ne-eqb _ _ n)
 
-      pub chad-tag : (r : Answer) → 8 ≤ size → (size - 8) / 4 ≡ 9 → r ≡ matrixOf (take (to - from) (drop from p)) → r ≡ chadOf p entry size
+      pub chad-tag : (r : Answer) → 8 ≤ size → (size - 8) / 4 ≡ 9 → r ≡ chadMatrixOf (take (to - from) (drop from p)) → r ≡ chadOf p entry size
       unfolding chadOf
       chad-tag r l n w =
           let i = inside _ _ _ h e in

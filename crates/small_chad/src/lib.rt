@@ -9,7 +9,7 @@ pub use small_meaning::ChadMatrix;
 ghost use mathlib.Core.Path.{_≡_};
 ghost use Rattle.small_meaning.specs.Answer.{matrixNumbers, chadInNumbers};
 ghost use Rattle.small_meaning.specs.Layout.{nineNumbers};
-ghost use Rattle.small_meaning.specs.Small.{matrixOf, chadOf};
+ghost use Rattle.small_meaning.specs.Small.{chadMatrixOf, chadOf};
 
 // s15Fixed16ArrayType, 'sf32'
 //  0 to  3  signature
@@ -57,7 +57,7 @@ fn matrix_at(tag: &[u8]) -> ChadMatrix
 
 // A tag of 44 to 47 bytes.
 fn read_matrix(tag: &[u8]) -> ChadAnswer
-    ensures { λ r. ⌜ chadInNumbers r ≡ matrixOf (now (tag .entry)) ⌝ }
+    ensures { λ r. ⌜ chadInNumbers r ≡ chadMatrixOf (now (tag .entry)) ⌝ }
 {
     if fields::u32_at(tag, InTag(SIGNATURE)) != Kind::SF32 {
         return ChadAnswer::Refused(Refusal::BadChad);

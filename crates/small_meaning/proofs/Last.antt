@@ -14,7 +14,7 @@ use Rattle.fields.specs.declared.Kind.the-variants.{Sf32}
 use Rattle.fields.proofs.Choice.{each}
 use Rattle.small_meaning.specs.Answer.{Answer, value, default, absent, refused}
 use Rattle.small_meaning.specs.Order.{answerTo}
-use Rattle.small_meaning.specs.Small.{matrixOf, chadOf, sigOf, dateOf, windowOf, measOf, viewOf, tripleOf, xyzOf, cicpOf}
+use Rattle.small_meaning.specs.Small.{chadMatrixOf, chadOf, sigOf, dateOf, windowOf, measOf, viewOf, tripleOf, xyzOf, cicpOf}
 use Rattle.small_meaning.specs.declared.Found.{Found}
 
 abbrev pub Not14 : Answer → Type 0
@@ -42,7 +42,7 @@ ordered (Found.Tag from to) x y z = z
 
 module _ (p : List ℕ) (entry size : ℕ) where
   pub chad-not-14 : Not14 (chadOf p entry size)
-  unfolding chadOf matrixOf
+  unfolding chadOf chadMatrixOf
   chad-not-14 =
       each Not14 (ltb (length p) (entry + size)) _ _ (λ _. other _ (λ e. omega arith))
       (λ _. each Not14 (ltb (length p) (entry + 8)) _ _ (λ _. other _ (λ e. omega arith))

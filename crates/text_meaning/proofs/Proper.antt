@@ -8,7 +8,7 @@ use lib.ListN.{replicate}
 use Rattle.icc.specs.Numbers.{each16, Each16}
 use Rattle.icc.specs.Text.{Ascii, Utf16, terminated, textType, asciiPart, unicodePart, scriptPart, characters, unicodeString, IsUnicode, Description, textDescriptionType, IsDescription, Localized, recordElement, recordElements, localizedHead, StringsAt, LocalizedTag}
 use Rattle.text_meaning.specs.Cases.{word, mlucTag, english, fullText, fullDesc, fullMluc}
-use Rattle.text_meaning.specs.Standard.{AllFit, Asked}
+use Rattle.text_meaning.specs.Standard.{RecordsFit, Asked}
 
 abbrev abc : List ℕ
 abc = 0x41 ∷ 0x42 ∷ 0x43 ∷ []
@@ -66,7 +66,7 @@ localized =
     }
 
 pub mluc-proper : Asked localized
-unfolding localized AllFit
+unfolding localized RecordsFit
 mluc-proper =
     record {
       some-record = omega arith;
@@ -89,6 +89,6 @@ smallest =
     }
 
 pub smallest-proper : Asked smallest
-unfolding smallest AllFit
+unfolding smallest RecordsFit
 smallest-proper =
     record { some-record = omega arith; count-fits = omega arith; fit = (record { language = omega arith; country = omega arith; bytes = omega arith; offset = omega arith }, tt) }
