@@ -4,5 +4,6 @@ pub mod Laid
 pub mod Inside
 pub mod Conforms
 pub mod More
+pub mod Every
 pub mod Last
 pub mod Cases
