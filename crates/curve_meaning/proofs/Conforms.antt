@@ -1,7 +1,7 @@
 -- Conformance to curveType and parametricCurveType, both ways: a curve that the standard writes, with any reserved bytes and anything behind it,
 -- is seen as what was written; and a curve that is seen is what the standard writes of its fields.
 -- Assumes nothing.
-use Prim.Native.Nat.{ℕ, zero, suc, _+_, _*_, _≤_}
+use Prim.Native.Nat.{ℕ, zero, suc, _+_, _≤_}
 use native.Mathlib.Omega.{arith}
 use mathlib.Core.Path.{_≡_, refl, sym, ap, _∙_}
 use mathlib.Core.Bool.{true, false, and-false, false≢true}

@@ -1,7 +1,7 @@
 -- Demand 3 of the tone curve. Bytes behind the profile keep every answer but refusal 11 and the absence for want of four bytes; one by a
 -- size of 1 to 11 stays. A higher limit keeps every answer but refusal 10. A value is kept by both at once.
 -- Assumes nothing.
-use Prim.Native.Nat.{ℕ, _+_, _*_, _≤_, _<_}
+use Prim.Native.Nat.{ℕ, _+_, _≤_, _<_}
 use native.Mathlib.Omega.{arith}
 use mathlib.Core.Path.{_≡_, refl, sym, _∙_, ap}
 use mathlib.Core.Bool.{Bool, true, false, cond, _&&_}
