@@ -8,7 +8,7 @@ use lib.Dec.{ltb}
 use lib.ListN.{length, getD, take, drop, set}
 use lib.Seq.{sets}
 use borrow.Author.Tests.{ne-eqb, lt-ltb, ltb-false}
-use Rattle.fields.specs.Place.{placeOf, countedSize}
+use Rattle.fields.specs.Place.{placeOf, countedSize, countedTag}
 use Rattle.fields.specs.declared.Place.{Place}
 use Rattle.fields.specs.declared.Place.the-variants.{In, Past}
 use Rattle.fields.proofs.Choice.{each}
@@ -23,7 +23,7 @@ use Rattle.lut_meaning.specs.Lut.{tagOf, lutOf, AnswerAndSlots as Lut·AnswerAn
 use Rattle.lut_meaning.specs.declared.Lut.{Lut}
 use Rattle.lut_meaning.specs.declared.LutAnswer.{LutAnswer}
 use Rattle.text_meaning.specs.Answer.{inNumbers as Text·inNumbers}
-use Rattle.text_meaning.specs.Text.{stringOf, tagOf as Text·tagOf, AnswerAndSlots as Text·AnswerAndSlots}
+use Rattle.text_meaning.specs.Text.{stringOf, AnswerAndSlots as Text·AnswerAndSlots}
 use Rattle.text_meaning.specs.declared.TextAnswer.{TextAnswer}
 use Rattle.lut_view_meaning.specs.Answer.{Answer}
 use Rattle.lut_view_meaning.specs.View.{tableBy, numbersOf, entryOf}
@@ -58,7 +58,7 @@ module _ (job : StreamJob) (p w : List ℕ) {k l m after : List ℕ} {e r : ℕ}
   pub lut-said : (walk : Walk) {got : Lut} → Lut·AnswerAndSlots walk (job .entries) (tagOf p (job .offset) (job .size)) (lutAnswer job p w walk) got w after → Wrote k l 0 e (lutText (inNumbers got)) → Wrote l m e r (lentText after) → Said (lutReply job p w walk) k m after r
   lut-said walk s u v = record { written = rw (← s .left-is, ← s .answer-is) (joined u v); left-is = s .left-is }
 
-  pub string-said : {got : TextAnswer} → Text·AnswerAndSlots (Text·tagOf p (job .offset) (job .size)) (stringOf p (job .offset) (job .size) (length w)) got w after → Wrote k l 0 e (stringText (Text·inNumbers got)) → Wrote l m e r (lentText after) → Said (stringReply job p w) k m after r
+  pub string-said : {got : TextAnswer} → Text·AnswerAndSlots (countedTag p (job .offset) (job .size)) (stringOf p (job .offset) (job .size) (length w)) got w after → Wrote k l 0 e (stringText (Text·inNumbers got)) → Wrote l m e r (lentText after) → Said (stringReply job p w) k m after r
   string-said s u v = record { written = rw (← s .left-is, ← s .answer-is) (joined u v); left-is = s .left-is }
 
 -- ---- the table view

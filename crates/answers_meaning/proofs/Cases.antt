@@ -15,7 +15,7 @@ use Rattle.lut_mft_meaning.specs.Layout.{isWide, isMft, entrySize, tablesStart,
 use Rattle.lut_mft_meaning.specs.Mft.{outside, badEntries, badChannels, badNumbers, tablesOf, numbersOf, mftOf}
 use Rattle.lut_meaning.specs.Abm.{colourTableOf, valueFrom, recordedOf, checkedOf, abmOf}
 use Rattle.lut_meaning.specs.Checks.{ended}
-use Rattle.lut_meaning.specs.Layout.{present, deviceChannels, spaceChannels, aCurves, mCurves, bCurves, planOf, recordsNeeded, gridOf, matrixOf as abmMatrix, biasOf}
+use Rattle.lut_meaning.specs.Layout.{present, deviceChannels, spaceChannels, aCurves, mCurves, bCurves, planOf, recordsNeeded, gridOf, chadMatrixOf as abmMatrix, biasOf}
 use Rattle.lut_meaning.specs.Lut.{byType, lutOf}
 use Rattle.lut_meaning.specs.Parts.{runsChecked, curvesOf, matrixChecked}
 use Rattle.text_meaning.specs.Cut.{byteOf, unitOf, keptOf}
@@ -24,7 +24,7 @@ use Rattle.text_meaning.specs.Text.{textOf, unicodeOf, descOf, slottedOf, mlucO
 use Rattle.lut_view_meaning.specs.View.{gridFrom, entryFrom, entryOf}
 use Rattle.small_meaning.specs.Layout.{nineNumbers, signatureIn, dateBytes, measurement, conditions, firstXyz, codePoints}
 use Rattle.small_meaning.specs.Order.{foundOf, answerTo}
-use Rattle.small_meaning.specs.Small.{matrixOf, chadOf, windowOf, tripleOf}
+use Rattle.small_meaning.specs.Small.{chadMatrixOf, chadOf, windowOf, tripleOf}
 use Rattle.lines.specs.Text.{digitsOf, decimal, number, numeral, row, numerals, numbers}
 use Rattle.curve_line_text.specs.CurveLine.{recordText}
 use Rattle.answers_jobs.specs.Stream.{tailOf}
@@ -35,5 +35,5 @@ use Rattle.answers_meaning.specs.Texts.{rangeText, stateText, stringText
 use Rattle.answers_meaning.specs.Words.{refusedText, mftWord, abmWord}
 
 pub claim : Each Holds cases
-unfolding Each Holds printed curveText curveAnswer trcOf curveOf curvOf paraOf divides parameterCount sizeOf stepOf wordsOf aligned curveAt runAt recordsOf abmOf checkedOf recordedOf valueFrom colourTableOf runsChecked curvesOf matrixChecked ended present deviceChannels spaceChannels aCurves mCurves bCurves planOf recordsNeeded gridOf abmMatrix biasOf stringOf stringByType textOf unicodeOf descOf slottedOf mlucOf recordsIn recordsAsked recordsFrom recordAt even wordsIn keptOf byteOf unitOf windowOf tripleOf signatureIn dateBytes measurement conditions firstXyz codePoints measured viewed rangeText stateText stringText lentText mftWord abmWord bytesAt recordText answerOf replyOf markedFrom tailOf plainOf smallText viewText entryText entryAt refusedText numerals numbers row numeral number decimal digitsOf foundOf answerTo chadOf matrixOf nineNumbers lutOf byType isMft isWide mftOf numbersOf badNumbers badEntries badChannels outside tablesOf fieldsOf mftAnswer entrySize tablesStart entriesAt colourTable product entryOf entryFrom gridFrom inGrid pointOf wordsAt signatureOf
+unfolding Each Holds printed curveText curveAnswer trcOf curveOf curvOf paraOf divides parameterCount sizeOf stepOf wordsOf aligned curveAt runAt recordsOf abmOf checkedOf recordedOf valueFrom colourTableOf runsChecked curvesOf matrixChecked ended present deviceChannels spaceChannels aCurves mCurves bCurves planOf recordsNeeded gridOf abmMatrix biasOf stringOf stringByType textOf unicodeOf descOf slottedOf mlucOf recordsIn recordsAsked recordsFrom recordAt even wordsIn keptOf byteOf unitOf windowOf tripleOf signatureIn dateBytes measurement conditions firstXyz codePoints measured viewed rangeText stateText stringText lentText mftWord abmWord bytesAt recordText answerOf replyOf markedFrom tailOf plainOf smallText viewText entryText entryAt refusedText numerals numbers row numeral number decimal digitsOf foundOf answerTo chadOf chadMatrixOf nineNumbers lutOf byType isMft isWide mftOf numbersOf badNumbers badEntries badChannels outside tablesOf fieldsOf mftAnswer entrySize tablesStart entriesAt colourTable product entryOf entryFrom gridFrom inGrid pointOf wordsAt signatureOf
 claim = (refl, (refl, (refl, (refl, (refl, (refl, (refl, (refl, (refl, (refl, (refl, (refl, (refl, (refl, (refl, (refl, (refl, (refl, (refl, (refl, (refl, (refl, tt))))))))))))))))))))))

@@ -8,7 +8,7 @@ use Rattle.fields.specs.House.{houseEntries, housePoints}
 use Rattle.curve_meaning.specs.Cases.{none, para}
 use Rattle.lut_meaning.specs.Cases.{bare, tagOfM, emptyAt}
 use Rattle.lut_mft_meaning.specs.Cases.{counted, narrow}
-use Rattle.text_meaning.specs.Cases.{five, recordOf}
+use Rattle.text_meaning.specs.Cases.{five, englishRecord}
 use Rattle.small_meaning.specs.Cases.{profileOf, dtim, xyz, cicp}
 use Rattle.answers_jobs.specs.declared.StreamJob.{StreamJob}
 use Rattle.lines.specs.Text.{numeral}
@@ -117,7 +117,7 @@ cases =
     -- 3, text: a range; two ranges and a language; a number of records
     leaves 3 ((0x74 ∷ 0x65 ∷ 0x78 ∷ 0x74 ∷ []) ++ replicate 4 0 ++ (0x41 ∷ 0 ∷ [])) 10 0 (valueOf 0x74 0x65 0x78 0x74) (pos 8 ∷ pos 1 ∷ []) [] ∷
     leaves 3 ((0x64 ∷ 0x65 ∷ 0x73 ∷ 0x63 ∷ []) ++ replicate 7 0 ++ (1 ∷ 0x41 ∷ 0 ∷ 0 ∷ 0 ∷ 9 ∷ 0 ∷ 0 ∷ 0 ∷ 2 ∷ 0 ∷ 0x42 ∷ 0 ∷ 0x43 ∷ [])) 25 0 (valueOf 0x64 0x65 0x73 0x63) (pos 12 ∷ pos 1 ∷ pos 9 ∷ pos 21 ∷ pos 4 ∷ []) [] ∷
-    leaves 3 five 33 5 (valueOf 0x6d 0x6c 0x75 0x63) (pos 1 ∷ []) (recordOf 28 4 ++ (0xA5A50004 ∷ [])) ∷
+    leaves 3 five 33 5 (valueOf 0x6d 0x6c 0x75 0x63) (pos 1 ∷ []) (englishRecord 28 4 ++ (0xA5A50004 ∷ [])) ∷
     -- 5 to 10, small readers: which numbers are signed; an absence; the default
     prints 5 (profileOf 0x73 0x69 0x67 0x20 (high 1)) 4 12 valueLetters (plus 1 ∷ []) ∷
     prints 6 dtim 4 20 valueLetters (map pos (0xE0 ∷ 0xE1 ∷ 0xE2 ∷ 0xE3 ∷ 1 ∷ 2 ∷ 3 ∷ 4 ∷ 5 ∷ 6 ∷ 7 ∷ 8 ∷ [])) ∷

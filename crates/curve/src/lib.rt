@@ -1,8 +1,11 @@
 // The tone curve, `curv` and `para`: read_trc_tag of moxcms.
 pub use curve_meaning::CurveAnswer;
 pub use curve_meaning::CurveRecord;
+use curve_meaning::EMPTY_KIND;
+use curve_meaning::PARA_KIND;
 pub use curve_meaning::RECORD_WORDS;
 pub use curve_meaning::Step;
+use curve_meaning::TABLE_KIND;
 pub use curve_meaning::Walk;
 use fields::Entry;
 use fields::InTag;
@@ -16,17 +19,38 @@ ghost use Prim.Native.Nat.{_+_, _*_, _≤_};
 ghost use lib.Dec.{ltb, leb, eqb};
 ghost use lib.ListN.{length, getD};
 ghost use lib.Seq.{sets};
-ghost use Rattle.fields.specs.Bytes.{u32At, wordsAt};
+ghost use Rattle.fields.specs.Bytes.{u32At};
 ghost use Rattle.fields.specs.House.{tagSize};
 ghost use Rattle.curve_meaning.specs.Answer.{words, inNumbers, answerOf, stepChecked, stepInNumbers, inSlot, StepAndSlot};
 ghost use Rattle.curve_meaning.specs.Curve.{trcOf, curveOf, curvOf, paraOf, divides};
-ghost use Rattle.curve_meaning.specs.Layout.{parameterCount, parametersEnd};
+ghost use Rattle.curve_meaning.specs.Layout.{parameterCount, parametersEnd, parametersAt};
 ghost use Rattle.curve_meaning.specs.Shape.{emptyStep, stepOf, tableShape, recordWords, wordsOf};
-ghost use Rattle.curve.specs.Found.{tableFrom, paraFrom};
+ghost use Rattle.curve.specs.Found.{paraIn, foundIn};
 
-// What a curve's type alone tells: the entries of a table, or the type of a function; or why the curve is refused.
+// curveType, 'curv'                      parametricCurveType, 'para'
+//  0 to  3  signature                     0 to  3  signature
+//  4 to  7  reserved                      4 to  7  reserved
+//  8 to 11  count of entries              8 to  9  function type
+// 12 on     the entries, 2 bytes each    10 to 11  reserved
+//                                        12 on     the parameters, 4 bytes each
+const SIGNATURE: u64 = 0;
+
+const SIGNATURE_END: u64 = 4;
+
+const ENTRY_COUNT: u64 = 8;
+
+const FUNCTION_TYPE: u64 = 8;
+
+const DATA: u64 = 12;
+
+const ENTRY_BYTES: u64 = 2;
+
+const PARAMETER_BYTES: u64 = 4;
+
+// What a curve is by its type alone: a table of so many entries, none for an empty curve, or a function of that type; or why it is refused.
 enum Found {
-    Number(u32),
+    Table(u32),
+    Para(u32),
     Refused(Refusal),
 }
 
@@ -36,7 +60,7 @@ fn empty_step(walk: Walk) -> u64
 {
     match walk {
         Walk::Crate => 0,
-        Walk::Book => 12,
+        Walk::Book => DATA,
     }
 }
 
@@ -47,7 +71,7 @@ fn table_step(entries: u32, walk: Walk) -> u64
     if entries == 0 {
         return empty_step(walk);
     }
-    12 + 2 * (entries as u64)
+    DATA + ENTRY_BYTES * (entries as u64)
 }
 
 // Parameters by function type.
@@ -61,11 +85,12 @@ fn parameter_count(function: u32) -> u32
     COUNT_TO_LENGTH[function as usize]
 }
 
-// The step behind a function of so many parameters.
-fn para_step(count: u32) -> u64
-    ensures { λ r. ⌜ r ≡ parametersEnd count ⌝ }
+// The step behind a function.
+fn para_step(function: u32) -> u64
+    requires { ⌜ function ≤ 4 ⌝ }
+    ensures { λ r. ⌜ r ≡ parametersEnd (parameterCount function) ⌝ }
 {
-    12 + 4 * (count as u64)
+    DATA + PARAMETER_BYTES * (parameter_count(function) as u64)
 }
 
 // The number that stands at `at`, all of it.
@@ -78,11 +103,11 @@ fn number_at(tag: &[u8], at: usize) -> u32
 
 // Parameter i of n, and 0 behind the last.
 fn parameter(tag: &[u8], n: u32, i: u32) -> u32
-    requires { ⌜ 12 + 4 * n ≤ length (now tag) ⌝ }
-    ensures { λ r. ⌜ r ≡ getD (wordsAt (now (tag .entry)) 12 n) i 0 ⌝ }
+    requires { ⌜ parametersEnd n ≤ length (now tag) ⌝ }
+    ensures { λ r. ⌜ r ≡ getD (parametersAt (now (tag .entry)) n) i 0 ⌝ }
 {
     if i < n {
-        number_at(tag, 12 + 4 * (i as usize))
+        number_at(tag, DATA as usize + PARAMETER_BYTES as usize * (i as usize))
     } else {
         0
     }
@@ -101,89 +126,64 @@ fn divides_by_zero(function: u32, a: u32) -> bool
     a == 0
 }
 
-// `curv`: how many entries it has, none for an empty curve.
+// `curv`: how many entries it has.
 fn find_table(tag: &[u8], limit: u64) -> Found
-    ensures { λ r. ⌜ tableFrom r ≡ curvOf limit (now (tag .entry)) ⌝ }
+    ensures { λ r. ⌜ foundIn (now (tag .entry)) r ≡ curvOf limit (now (tag .entry)) ⌝ }
 {
-    let entries = fields::u32_at(tag, InTag(8));
+    let entries = fields::u32_at(tag, InTag(ENTRY_COUNT));
     if entries == 0 {
-        return Found::Number(0);
+        return Found::Table(0);
     }
     if limit < entries as u64 {
         return Found::Refused(Refusal::TooManyEntries);
     }
-    if (tag.len() as u64) < 12 + 2 * (entries as u64) {
+    if (tag.len() as u64) < DATA + ENTRY_BYTES * (entries as u64) {
         return Found::Refused(Refusal::CurveRunsOut);
     }
-    Found::Number(entries)
+    Found::Table(entries)
 }
 
 // `para`: which function it is.
 fn find_para(tag: &[u8]) -> Found
-    ensures { λ r. ⌜ paraFrom (now (tag .entry)) r ≡ paraOf (now (tag .entry)) ⌝ }
+    ensures { λ r. ⌜ foundIn (now (tag .entry)) r ≡ paraOf (now (tag .entry)) ⌝ }
 {
-    let function = fields::u16_at(tag, InTag(8)) as u32;
+    let function = fields::u16_at(tag, InTag(FUNCTION_TYPE)) as u32;
     if 4 < function {
         return Found::Refused(Refusal::FunctionType);
     }
     let n = parameter_count(function);
-    if (tag.len() as u64) < 12 + 4 * (n as u64) {
+    if (tag.len() as u64) < DATA + PARAMETER_BYTES * (n as u64) {
         return Found::Refused(Refusal::CurveRunsOut);
     }
     let a = parameter(tag, n, 1);
     if divides_by_zero(function, a) {
         return Found::Refused(Refusal::ZeroDivision);
     }
-    Found::Number(function)
+    Found::Para(function)
 }
 
-// `curv`: its step.
-fn judge_table(tag: &[u8], limit: u64, walk: Walk) -> Step
-    ensures { λ r. ⌜ stepInNumbers r ≡ stepChecked walk (curvOf limit (now (tag .entry))) ⌝ }
-{
-    let found = find_table(tag, limit);
-    match found {
-        Found::Number(entries) => Step::On(table_step(entries, walk)),
-        Found::Refused(why) => Step::Refused(why),
-    }
-}
-
-// `para`: its step.
-fn judge_para(tag: &[u8], walk: Walk) -> Step
-    ensures { λ r. ⌜ stepInNumbers r ≡ stepChecked walk (paraOf (now (tag .entry))) ⌝ }
-{
-    let found = find_para(tag);
-    match found {
-        Found::Number(function) => {
-            let n = parameter_count(function);
-            Step::On(para_step(n))
-        }
-        Found::Refused(why) => Step::Refused(why),
-    }
-}
-
-// The curve at the front of `bytes`, which may hold more behind it: how far a walk goes on, and nothing else of it.
-pub fn judge_curve(bytes: &[u8], limit: u64, walk: Walk) -> Step
-    ensures { λ r. ⌜ stepInNumbers r ≡ stepChecked walk (curveOf limit (now (bytes .entry))) ⌝ }
+// The curve at the front of `bytes`, which may hold more behind it.
+fn find_curve(bytes: &[u8], limit: u64) -> Found
+    ensures { λ r. ⌜ foundIn (now (bytes .entry)) r ≡ curveOf limit (now (bytes .entry)) ⌝ }
 {
     if bytes.len() < TAG_SIZE as usize {
-        return Step::Refused(Refusal::CurveRunsOut);
+        return Found::Refused(Refusal::CurveRunsOut);
     }
-    let signature = fields::u32_at(bytes, InTag(0));
+    let signature = fields::u32_at(bytes, InTag(SIGNATURE));
     if signature == Kind::CURV {
-        return judge_table(bytes, limit, walk);
+        return find_table(bytes, limit);
     }
     if signature == Kind::PARA {
-        return judge_para(bytes, walk);
+        return find_para(bytes);
     }
-    Step::Refused(Refusal::OtherCurve)
+    Found::Refused(Refusal::OtherCurve)
 }
 
 // A table's record.
 fn table_record(start: u32, entries: u32) -> CurveRecord
     ensures { λ r. ⌜ words r ≡ wordsOf start (tableShape entries) ⌝ }
 {
-    let kind = if entries == 0 { 0 } else { 1 };
+    let kind = if entries == 0 { EMPTY_KIND } else { TABLE_KIND };
     CurveRecord {
         kind,
         start,
@@ -198,64 +198,56 @@ fn table_record(start: u32, entries: u32) -> CurveRecord
     }
 }
 
-// `curv`: an empty curve, or a table.
-fn read_table(tag: &[u8], start: u32, limit: u64, walk: Walk) -> CurveAnswer
-    ensures { λ r. ⌜ inNumbers r ≡ answerOf walk start (curvOf limit (now (tag .entry))) ⌝ }
+// A function's record.
+fn para_record(tag: &[u8], start: u32, function: u32) -> CurveRecord
+    requires { ⌜ (function ≤ 4) × (parametersEnd (parameterCount function) ≤ length (now tag)) ⌝ }
+    ensures { λ r. ⌜ words r ≡ wordsOf start (paraIn (now (tag .entry)) function) ⌝ }
 {
-    let found = find_table(tag, limit);
+    let n = parameter_count(function);
+    CurveRecord {
+        kind: PARA_KIND + function,
+        start,
+        count: n,
+        g: parameter(tag, n, 0),
+        a: parameter(tag, n, 1),
+        b: parameter(tag, n, 2),
+        c: parameter(tag, n, 3),
+        d: parameter(tag, n, 4),
+        e: parameter(tag, n, 5),
+        f: parameter(tag, n, 6),
+    }
+}
+
+// The curve at the front of `bytes`: how far a walk goes on, and nothing else of it.
+pub fn judge_curve(bytes: &[u8], limit: u64, walk: Walk) -> Step
+    ensures { λ r. ⌜ stepInNumbers r ≡ stepChecked walk (curveOf limit (now (bytes .entry))) ⌝ }
+{
+    let found = find_curve(bytes, limit);
     match found {
-        Found::Number(entries) => {
+        Found::Table(entries) => Step::On(table_step(entries, walk)),
+        Found::Para(function) => Step::On(para_step(function)),
+        Found::Refused(why) => Step::Refused(why),
+    }
+}
+
+// The curve at the front of `bytes`. `start` is where its data start in the tag, for the record. Never absent.
+pub fn read_curve(bytes: &[u8], start: u32, limit: u64, walk: Walk) -> CurveAnswer
+    ensures { λ r. ⌜ inNumbers r ≡ answerOf walk start (curveOf limit (now (bytes .entry))) ⌝ }
+{
+    let found = find_curve(bytes, limit);
+    match found {
+        Found::Table(entries) => {
             let curve = table_record(start, entries);
             let consumed = table_step(entries, walk);
             CurveAnswer::Value { curve, consumed }
         }
-        Found::Refused(why) => CurveAnswer::Refused(why),
-    }
-}
-
-// `para`: a function and its parameters.
-fn read_para(tag: &[u8], start: u32, walk: Walk) -> CurveAnswer
-    ensures { λ r. ⌜ inNumbers r ≡ answerOf walk start (paraOf (now (tag .entry))) ⌝ }
-{
-    let found = find_para(tag);
-    match found {
-        Found::Number(function) => {
-            let n = parameter_count(function);
-            let curve = CurveRecord {
-                kind: 2 + function,
-                start,
-                count: n,
-                g: parameter(tag, n, 0),
-                a: parameter(tag, n, 1),
-                b: parameter(tag, n, 2),
-                c: parameter(tag, n, 3),
-                d: parameter(tag, n, 4),
-                e: parameter(tag, n, 5),
-                f: parameter(tag, n, 6),
-            };
-            let consumed = para_step(n);
+        Found::Para(function) => {
+            let curve = para_record(bytes, start, function);
+            let consumed = para_step(function);
             CurveAnswer::Value { curve, consumed }
         }
         Found::Refused(why) => CurveAnswer::Refused(why),
     }
-}
-
-// The curve at the front of `bytes`, which may hold more behind it. `start` is where its data start in the tag, for the record.
-// Never absent.
-pub fn read_curve(bytes: &[u8], start: u32, limit: u64, walk: Walk) -> CurveAnswer
-    ensures { λ r. ⌜ inNumbers r ≡ answerOf walk start (curveOf limit (now (bytes .entry))) ⌝ }
-{
-    if bytes.len() < TAG_SIZE as usize {
-        return CurveAnswer::Refused(Refusal::CurveRunsOut);
-    }
-    let signature = fields::u32_at(bytes, InTag(0));
-    if signature == Kind::CURV {
-        return read_table(bytes, start, limit, walk);
-    }
-    if signature == Kind::PARA {
-        return read_para(bytes, start, walk);
-    }
-    CurveAnswer::Refused(Refusal::OtherCurve)
 }
 
 // Writes a record's words in front of a slot.
@@ -275,49 +267,6 @@ fn put(slot: &mut [u32], r: CurveRecord)
     slot[9] = r.f;
 }
 
-// `curv`: its record.
-fn write_table(tag: &[u8], start: u32, limit: u64, walk: Walk, slot: &mut [u32]) -> Step
-    requires { ⌜ recordWords ≤ length (now slot) ⌝ }
-    ensures { λ r. ⌜ StepAndSlot walk start (curvOf limit (now (tag .entry))) r (now (slot .entry)) (now (slot .exit)) ⌝ }
-{
-    let found = find_table(tag, limit);
-    match found {
-        Found::Number(entries) => {
-            put(slot, table_record(start, entries));
-            Step::On(table_step(entries, walk))
-        }
-        Found::Refused(why) => Step::Refused(why),
-    }
-}
-
-// `para`: its record.
-fn write_para(tag: &[u8], start: u32, walk: Walk, slot: &mut [u32]) -> Step
-    requires { ⌜ recordWords ≤ length (now slot) ⌝ }
-    ensures { λ r. ⌜ StepAndSlot walk start (paraOf (now (tag .entry))) r (now (slot .entry)) (now (slot .exit)) ⌝ }
-{
-    let found = find_para(tag);
-    match found {
-        Found::Number(function) => {
-            let count = parameter_count(function);
-            let curve = CurveRecord {
-                kind: 2 + function,
-                start,
-                count,
-                g: parameter(tag, count, 0),
-                a: parameter(tag, count, 1),
-                b: parameter(tag, count, 2),
-                c: parameter(tag, count, 3),
-                d: parameter(tag, count, 4),
-                e: parameter(tag, count, 5),
-                f: parameter(tag, count, 6),
-            };
-            put(slot, curve);
-            Step::On(para_step(count))
-        }
-        Found::Refused(why) => Step::Refused(why),
-    }
-}
-
 // The curve at the front of `bytes`, as `read_curve` has it: its record goes in front of `slot`, and how far the walk goes on is answered.
 // A slot of fewer than RECORD_WORDS words is refused.
 pub fn write_curve(bytes: &[u8], start: u32, limit: u64, walk: Walk, slot: &mut [u32]) -> Step
@@ -326,17 +275,18 @@ pub fn write_curve(bytes: &[u8], start: u32, limit: u64, walk: Walk, slot: &mut 
     if slot.len() < RECORD_WORDS {
         return Step::Refused(Refusal::TooFewSlots);
     }
-    if bytes.len() < TAG_SIZE as usize {
-        return Step::Refused(Refusal::CurveRunsOut);
+    let found = find_curve(bytes, limit);
+    match found {
+        Found::Table(entries) => {
+            put(slot, table_record(start, entries));
+            Step::On(table_step(entries, walk))
+        }
+        Found::Para(function) => {
+            put(slot, para_record(bytes, start, function));
+            Step::On(para_step(function))
+        }
+        Found::Refused(why) => Step::Refused(why),
     }
-    let signature = fields::u32_at(bytes, InTag(0));
-    if signature == Kind::CURV {
-        return write_table(bytes, start, limit, walk, slot);
-    }
-    if signature == Kind::PARA {
-        return write_para(bytes, start, walk, slot);
-    }
-    Step::Refused(Refusal::OtherCurve)
 }
 
 // Whether a size is given and holds no curve.
@@ -361,7 +311,7 @@ fn tag_bytes(left: usize, size: u32) -> u64
 pub fn read_trc_tag(profile: &[u8], entry: Entry, size: u32, limit: u64, walk: Walk) -> CurveAnswer
     ensures { λ r. ⌜ inNumbers r ≡ trcOf walk limit (now (profile .entry)) (entry .0) size ⌝ }
 {
-    let signature = fields::locate(profile, entry, InTag(4));
+    let signature = fields::locate(profile, entry, InTag(SIGNATURE_END));
     let Place::In { from, to: _ } = signature else {
         return CurveAnswer::Absent;
     };

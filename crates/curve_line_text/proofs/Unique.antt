@@ -6,8 +6,6 @@ use Rattle.curve_meaning.specs.Answer.{inNumbers}
 use Rattle.curve_meaning.proofs.Unique.{unique as curve-unique}
 use Rattle.curve_line_text.specs.CurveLine.{Line, lineFrom}
 use Rattle.curve_line_text.specs.declared.CurveLine.{CurveLine}
-use native.Mathlib.Omega.{arith}
-use Prim.Native.Nat.{ℕ}
 
 pub unique : (l : Line) (r s : CurveLine) → lineFrom r ≡ l → lineFrom s ≡ l → r ≡ s
 unique l (CurveLine.Answer a) (CurveLine.Answer b) p q = ap CurveLine.Answer (curve-unique (inNumbers b) a b (cc) refl)

@@ -1,7 +1,7 @@
 -- Conformance to curveType and parametricCurveType, both ways: a curve that the standard writes, with any reserved bytes and anything behind it,
 -- is seen as what was written; and a curve that is seen is what the standard writes of its fields.
 -- Assumes nothing.
-use Prim.Native.Nat.{ℕ, zero, suc, _+_, _*_, _≤_}
+use Prim.Native.Nat.{ℕ, zero, suc, _+_, _≤_}
 use native.Mathlib.Omega.{arith}
 use mathlib.Core.Path.{_≡_, refl, sym, ap, _∙_}
 use mathlib.Core.Bool.{true, false, and-false, false≢true}
@@ -14,12 +14,13 @@ use Rattle.icc.specs.Curves.{Curve, sampled, parametric, curveElement, curveTyp
 use Rattle.icc.specs.Numbers.{each16, each32, Is32, Each32, Bytes}
 use Rattle.fields.proofs.Written.{read16, read32, length16, length32, words-drop, words-written, below32, words-below, rest-bytes, part-bytes, then16, then32, row16, row32, halvesAt, halves-length}
 use Rattle.fields.specs.Bytes.{u16At, u32At, wordsAt}
+use Rattle.fields.specs.House.{tagSize}
 use Rattle.fields.specs.Tag.{signatureOf}
 use Rattle.curve_meaning.specs.Answer.{value, answerOf}
 use Rattle.curve_meaning.specs.Curve.{trcOf, curveOf, divides}
-use Rattle.curve_meaning.specs.Layout.{parameterCount}
+use Rattle.curve_meaning.specs.Layout.{parameterCount, entriesEnd, parametersEnd}
 use Rattle.curve_meaning.specs.Shape.{Shape, empty, table, para, sizeOf, stepOf, wordsOf}
-use Rattle.curve_meaning.specs.Standard.{shapeOf, Fits, Begins, recordTold, stepTold, Tag, Lone}
+use Rattle.curve_meaning.specs.Standard.{shapeOf, CurveFits, BeginsCurve, recordTold, stepTold, Tag, Lone}
 use Rattle.curve_meaning.specs.declared.Walk.{Walk}
 use Rattle.curve_meaning.specs.declared.Walk.the-variants.{Crate, Book}
 use Rattle.curve_meaning.proofs.Laid.{CurveType, ParametricCurveType, Laid, Within, accepted, laid}
@@ -73,8 +74,8 @@ module _ (reserved : ℕ) (rest : List ℕ) where
       }
 
 -- a curve that the standard writes is seen as its shape
-pub written-read : (limit : ℕ) (c : Curve) (rest : List ℕ) → Fits limit c → curveOf limit (curveElement c ++ rest) ≡ good (shapeOf c)
-unfolding curveElement shapeOf Fits Laid Within
+pub written-read : (limit : ℕ) (c : Curve) (rest : List ℕ) → CurveFits limit c → curveOf limit (curveElement c ++ rest) ≡ good (shapeOf c)
+unfolding curveElement shapeOf CurveFits Laid Within
 written-read limit (sampled reserved []) rest (h, l) = accepted limit _ empty (curve-laid reserved rest [] h) tt
 written-read limit (sampled reserved (e ∷ es)) rest (h, l) =
     accepted limit _ (table (suc (length es))) (omega arith, curve-laid reserved rest (e ∷ es) h) l
@@ -98,35 +99,35 @@ module _ (limit : ℕ) (t : List ℕ) (b : Bytes t) where
   p i = u32At t i
 
   -- entries that stand there
-  curve-at : (s : Shape) (n : ℕ) → s ≡ shapeOf (sampled (p 4) (halvesAt t 12 n)) → CurveType t n → n ≤ limit → Begins limit t s
-  unfolding curveElement curveType signatureOf Fits
+  curve-at : (s : Shape) (n : ℕ) → s ≡ shapeOf (sampled (p 4) (halvesAt t 12 n)) → CurveType t n → n ≤ limit → BeginsCurve limit t s
+  unfolding curveElement curveType signatureOf CurveFits
   curve-at s n e h m =
       let l = h .whole in
       let c = halves-length t 12 n in
       record {
         curve = sampled (p 4) (halvesAt t 12 n);
-        rest = drop (12 + 2 * n) t;
+        rest = drop (entriesEnd n) t;
         shape-is = e;
         fits = (omega (arith, c, h .count, below32 t b 8), omega (arith, c));
         is = then32 t b 0 (omega arith) (h .signature) (then32 t b 4 (omega arith) refl (then32 t b 8 (omega arith) (h .count ∙ sym c) (row16 t b n 12 l refl refl)));
       }
 
   -- a function whose type and parameters stand there
-  function-at : (ps : List ℕ) (f : Function) → u16At t 8 ≡ encoded f → wordsAt t 12 (length (parameters f)) ≡ parameters f → ParametricCurveType t (encoded f) ps → (ps ≡ parameters f → Defined f) → Begins limit t (para (encoded f) ps)
-  unfolding curveElement shapeOf parametricCurveType signatureOf Fits
+  function-at : (ps : List ℕ) (f : Function) → u16At t 8 ≡ encoded f → wordsAt t 12 (length (parameters f)) ≡ parameters f → ParametricCurveType t (encoded f) ps → (ps ≡ parameters f → Defined f) → BeginsCurve limit t (para (encoded f) ps)
+  unfolding curveElement shapeOf parametricCurveType signatureOf CurveFits
   function-at ps f e w h d =
       let n : ℕ = length (parameters f) in
-      let l : 12 + 4 * n ≤ length t = omega (arith, h .whole, counted f) in
+      let l : parametersEnd n ≤ length t = omega (arith, h .whole, counted f) in
       let g : ps ≡ parameters f = sym (h .given) ∙ rw (e, counted f) w in
       record {
         curve = parametric (p 4) (u16At t 10) f;
-        rest = drop (12 + 4 * n) t;
+        rest = drop (parametersEnd n) t;
         shape-is = ap (para (encoded f)) g;
         fits = (rw w at (words-below t b 12 n), d g);
         is = then32 t b 0 (omega arith) (h .signature) (then32 t b 4 (omega arith) refl (then16 t b 8 (omega arith) e (then16 t b 10 (omega arith) refl (row32 t b n 12 l w refl))));
       }
 
-  function-is : (type : ℕ) (ps : List ℕ) → ParametricCurveType t type ps → (divides type ≡ true → second ps ≡ 0 → ⊥) → Begins limit t (para type ps)
+  function-is : (type : ℕ) (ps : List ℕ) → ParametricCurveType t type ps → (divides type ≡ true → second ps ≡ 0 → ⊥) → BeginsCurve limit t (para type ps)
   unfolding encoded parameters Defined divides wordsAt
   function-is zero ps h d = function-at ps (type0 (p 12)) (h .function) refl h (λ g. tt)
   function-is (suc zero) ps h d = function-at ps (type1 (p 12) (p 16) (p 20)) (h .function) refl h (λ g z. d refl (ap second g ∙ z))
@@ -136,7 +137,7 @@ module _ (limit : ℕ) (t : List ℕ) (b : Bytes t) where
   function-is (suc (suc (suc (suc (suc n))))) ps h d = absurd (omega (arith, h .known))
 
   -- a curve that is seen is what the standard writes
-  pub read-written : (s : Shape) → curveOf limit t ≡ good s → Begins limit t s
+  pub read-written : (s : Shape) → curveOf limit t ≡ good s → BeginsCurve limit t s
   unfolding Laid Within shapeOf halvesAt
   read-written empty h = curve-at empty 0 refl (laid limit t empty h .0) (omega arith)
   read-written (table zero) h = let w = laid limit t (table zero) h in absurd (omega (arith, w .0 .0))
@@ -166,38 +167,38 @@ told-step Crate (sampled reserved (e ∷ es)) = written-size (sampled reserved (
 told-step Crate (parametric reserved reserved2 f) = written-size (parametric reserved reserved2 f)
 
 -- a curve has its first 12 bytes
-long : (c : Curve) (rest : List ℕ) → 12 ≤ length (curveElement c ++ rest)
+long : (c : Curve) (rest : List ℕ) → tagSize ≤ length (curveElement c ++ rest)
 long c rest = omega (arith, length-append (curveElement c) rest, written-size c, size-least (shapeOf c))
 
 -- a size that is not 0
 some : (n : ℕ) → eqb (suc n) 0 ≡ false
 some n = ne-eqb (suc n) 0 (λ z. omega arith)
 
-pub lone-read : (walk : Walk) (limit : ℕ) (profile : List ℕ) (entry size : ℕ) (c : Curve) (rest : List ℕ) → Fits limit c → Tag profile entry size (curveElement c ++ rest) → trcOf walk limit profile entry size ≡ value (recordTold 12 c) (stepTold walk c)
+pub lone-read : (walk : Walk) (limit : ℕ) (profile : List ℕ) (entry size : ℕ) (c : Curve) (rest : List ℕ) → CurveFits limit c → Tag profile entry size (curveElement c ++ rest) → trcOf walk limit profile entry size ≡ value (recordTold tagSize c) (stepTold walk c)
 unfolding trcOf answerOf Tag
 lone-read walk limit profile entry zero c rest f e =
-    let l : entry + 12 ≤ length profile = omega (arith, ap length e, long c rest, length-drop entry profile) in
+    let l : entry + tagSize ≤ length profile = omega (arith, ap length e, long c rest, length-drop entry profile) in
     let first : entry + 4 ≤ length profile = omega arith in
     let inside : entry + 0 ≤ length profile = omega arith in
-    simp (le-ltb (length profile) (entry + 4) first, le-ltb (length profile) (entry + 0) inside, e, written-read limit c rest f, told-words 12 c, told-step walk c)
+    simp (le-ltb (length profile) (entry + 4) first, le-ltb (length profile) (entry + 0) inside, e, written-read limit c rest f, told-words tagSize c, told-step walk c)
 lone-read walk limit profile entry (suc n) c rest f (e, inside) =
-    let l : 12 ≤ suc n = omega (arith, ap length e, long c rest, length-take (suc n) (drop entry profile)) in
+    let l : tagSize ≤ suc n = omega (arith, ap length e, long c rest, length-take (suc n) (drop entry profile)) in
     let first : entry + 4 ≤ length profile = omega arith in
-    simp (le-ltb (length profile) (entry + 4) first, le-ltb (suc n) 12 l, and-false, le-ltb (length profile) (entry + suc n) inside, some n, e, written-read limit c rest f, told-words 12 c, told-step walk c)
+    simp (le-ltb (length profile) (entry + 4) first, le-ltb (suc n) tagSize l, and-false, le-ltb (length profile) (entry + suc n) inside, some n, e, written-read limit c rest f, told-words tagSize c, told-step walk c)
 
 -- and a value is of such a tag
 pub lone-written : (walk : Walk) (limit : ℕ) (profile : List ℕ) → Bytes profile → (entry size : ℕ) (ws : List ℕ) (consumed : ℕ) → trcOf walk limit profile entry size ≡ value ws consumed → Lone walk limit profile entry size ws consumed
 unfolding Tag
 lone-written walk limit profile b entry size ws consumed h = by size (accepted-inside walk limit profile entry size ws consumed h)
   where
-    of : (size : ℕ) (t : List ℕ) → Bytes t → (s : Shape) → curveOf limit t ≡ good s → ws ≡ wordsOf 12 s → consumed ≡ stepOf walk s → ((x : List ℕ) → t ≡ x → Tag profile entry size x) → Lone walk limit profile entry size ws consumed
+    of : (size : ℕ) (t : List ℕ) → Bytes t → (s : Shape) → curveOf limit t ≡ good s → ws ≡ wordsOf tagSize s → consumed ≡ stepOf walk s → ((x : List ℕ) → t ≡ x → Tag profile entry size x) → Lone walk limit profile entry size ws consumed
     of size t bt s seen w k stands =
         let c = read-written limit t bt s seen in
         record {
           curve = c .curve;
           rest = c .rest;
           fits = c .fits;
-          words-are = w ∙ ap (wordsOf 12) (c .shape-is) ∙ told-words 12 (c .curve);
+          words-are = w ∙ ap (wordsOf tagSize) (c .shape-is) ∙ told-words tagSize (c .curve);
           consumed-is = k ∙ ap (stepOf walk) (c .shape-is) ∙ told-step walk (c .curve);
           stands = stands _ (c .is);
         }

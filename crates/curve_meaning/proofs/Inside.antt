@@ -11,13 +11,14 @@ use borrow.Author.Tests.{ltb-false}
 use Rattle.fields.proofs.Never.{never}
 use Rattle.fields.specs.Checked.{good}
 use Rattle.fields.proofs.Choice.{each}
+use Rattle.fields.specs.House.{tagSize}
 use Rattle.curve_meaning.specs.Answer.{Answer, value, absent, answerOf}
 use Rattle.curve_meaning.specs.Curve.{trcOf, curveOf, tagOf}
 use Rattle.curve_meaning.specs.Shape.{Shape, empty, table, para, sizeOf, stepOf}
 use Rattle.curve_meaning.specs.declared.Walk.{Walk}
 use Rattle.curve_meaning.specs.declared.Walk.the-variants.{Crate, Book}
 use Rattle.curve_meaning.proofs.Laid.{Laid, laid}
-use Rattle.curve_meaning.proofs.Told.{Told, told}
+use Rattle.curve_meaning.proofs.Answered.{FromCurve, from-curve}
 
 -- ---- one curve
 
@@ -32,7 +33,7 @@ pub curve-inside : (limit : ℕ) (t : List ℕ) (s : Shape) → curveOf limit t 
 curve-inside limit t s h = laid-inside t s (laid limit t s h .0)
 
 -- every curve has its first 12 bytes
-pub size-least : (s : Shape) → 12 ≤ sizeOf s
+pub size-least : (s : Shape) → tagSize ≤ sizeOf s
 unfolding sizeOf
 size-least empty = omega arith
 size-least (table n) = omega arith
@@ -57,25 +58,25 @@ book-step (para type ps) = refl
 
 -- what stands behind a value
 pub record Accepted (walk : Walk) (limit : ℕ) (p : List ℕ) (entry size : ℕ) (ws : List ℕ) (consumed : ℕ) : Type 0 where
-  pub curve : Told walk 12 (curveOf limit (tagOf p entry size)) ws consumed
+  pub curve : FromCurve walk tagSize (curveOf limit (tagOf p entry size)) ws consumed
   pub curve-in-tag : sizeOf (curve .shape) ≤ length (tagOf p entry size)
   pub tag-in-profile : entry + size ≤ length p
 
 module _ (walk : Walk) (limit : ℕ) (p : List ℕ) (entry size : ℕ) where
   abbrev Behind : Answer → Type 0
-  Behind a = (ws : List ℕ) (consumed : ℕ) → value ws consumed ≡ a → (entry + size ≤ length p) × (value ws consumed ≡ answerOf walk 12 (curveOf limit (tagOf p entry size)))
+  Behind a = (ws : List ℕ) (consumed : ℕ) → value ws consumed ≡ a → (entry + size ≤ length p) × (value ws consumed ≡ answerOf walk tagSize (curveOf limit (tagOf p entry size)))
 
   behind : Behind (trcOf walk limit p entry size)
   unfolding trcOf
   behind =
       let none : Behind absent = λ ws consumed h. never cc in
       each Behind (ltb (length p) (entry + 4)) _ _ (λ _. none)
-      (λ _. each Behind (leb 1 size && ltb size 12) _ _ (λ _. none)
+      (λ _. each Behind (leb 1 size && ltb size tagSize) _ _ (λ _. none)
       (λ _. each Behind (ltb (length p) (entry + size)) _ _ (λ _ ws consumed h. never cc)
       (λ l ws consumed h. (ltb-false (length p) (entry + size) l, h))))
 
   pub accepted-inside : (ws : List ℕ) (consumed : ℕ) → trcOf walk limit p entry size ≡ value ws consumed → Accepted walk limit p entry size ws consumed
   accepted-inside ws consumed h =
       let b = behind ws consumed (sym h) in
-      let c = told walk 12 (curveOf limit (tagOf p entry size)) (b .1) in
+      let c = from-curve walk tagSize (curveOf limit (tagOf p entry size)) (b .1) in
       record { curve = c; curve-in-tag = curve-inside limit (tagOf p entry size) (c .shape) (c .seen); tag-in-profile = b .0 }

@@ -1,8 +1,9 @@
-pub mod Told
+pub mod Answered
 pub mod Unique
 pub mod Laid
 pub mod Inside
 pub mod Conforms
 pub mod More
+pub mod Every
 pub mod Last
 pub mod Cases

@@ -1,7 +1,7 @@
 -- Demand 3 of the tone curve. Bytes behind the profile keep every answer but refusal 11 and the absence for want of four bytes; one by a
 -- size of 1 to 11 stays. A higher limit keeps every answer but refusal 10. A value is kept by both at once.
 -- Assumes nothing.
-use Prim.Native.Nat.{ℕ, _+_, _*_, _≤_, _<_}
+use Prim.Native.Nat.{ℕ, _+_, _≤_, _<_}
 use native.Mathlib.Omega.{arith}
 use mathlib.Core.Path.{_≡_, refl, sym, _∙_, ap}
 use mathlib.Core.Bool.{Bool, true, false, cond, _&&_}
@@ -14,13 +14,14 @@ use Rattle.fields.proofs.Never.{never}
 use Rattle.fields.specs.Checked.{Checked, bad}
 use Rattle.curve_meaning.specs.Shape.{Shape}
 use Rattle.fields.specs.Bytes.{u16At, u32At}
+use Rattle.fields.specs.House.{tagSize}
 use Rattle.fields.specs.Tag.{signatureOf}
 use Rattle.fields.specs.declared.Kind.the-variants.{Curv, Para}
 use Rattle.fields.proofs.Append.{u16-append, u32-append, words-append, longer, part-append, rest-append}
 use Rattle.fields.proofs.Grow.{Grows, choose, passes}
 use Rattle.curve_meaning.specs.Answer.{Answer, value, absent, refused, answerOf}
 use Rattle.curve_meaning.specs.Curve.{trcOf, curveOf, curvOf, paraOf, tagOf}
-use Rattle.curve_meaning.specs.Layout.{parameterCount}
+use Rattle.curve_meaning.specs.Layout.{parameterCount, entriesEnd, parametersEnd}
 use Rattle.curve_meaning.specs.declared.Walk.{Walk}
 
 -- the answers that may change: those of one refusal
@@ -39,31 +40,31 @@ answered walk start n x y (inr e) = inr (ap (answerOf walk start) e)
 -- ---- bytes behind the curve
 
 module _ (t q : List ℕ) where
-  table-more : (limit : ℕ) → 12 ≤ length t → Grows (No 11) (curvOf limit t) (curvOf limit (t ++ q))
+  table-more : (limit : ℕ) → tagSize ≤ length t → Grows (No 11) (curvOf limit t) (curvOf limit (t ++ q))
   unfolding curvOf
   table-more limit h =
       let n : ℕ = u32At t 8 in
       rw (u32-append t q 8 h)
       (choose (No 11) (eqb n 0) (λ _. inr refl)
       (λ _. choose (No 11) (ltb limit n) (λ _. inr refl)
-      (λ _. passes (No 11) (ltb (length t) (12 + 2 * n)) (ltb (length (t ++ q)) (12 + 2 * n)) (longer t q (12 + 2 * n)) refl (λ _. inr refl))))
+      (λ _. passes (No 11) (ltb (length t) (entriesEnd n)) (ltb (length (t ++ q)) (entriesEnd n)) (longer t q (entriesEnd n)) refl (λ _. inr refl))))
 
-  para-more : 12 ≤ length t → Grows (No 11) (paraOf t) (paraOf (t ++ q))
+  para-more : tagSize ≤ length t → Grows (No 11) (paraOf t) (paraOf (t ++ q))
   unfolding paraOf
   para-more h =
       let type : ℕ = u16At t 8 in
       let n : ℕ = parameterCount type in
       rw (u16-append t q 8 (omega arith))
       (choose (No 11) (ltb 4 type) (λ _. inr refl)
-      (λ _. passes (No 11) (ltb (length t) (12 + 4 * n)) (ltb (length (t ++ q)) (12 + 4 * n)) (longer t q (12 + 4 * n)) refl
-      (λ e. rw (words-append t q 12 n (ltb-false (length t) (12 + 4 * n) e)) (inr refl))))
+      (λ _. passes (No 11) (ltb (length t) (parametersEnd n)) (ltb (length (t ++ q)) (parametersEnd n)) (longer t q (parametersEnd n)) refl
+      (λ e. rw (words-append t q 12 n (ltb-false (length t) (parametersEnd n) e)) (inr refl))))
 
   pub curve-more : (limit : ℕ) → Grows (No 11) (curveOf limit t) (curveOf limit (t ++ q))
   unfolding curveOf
   curve-more limit =
-      passes (No 11) (ltb (length t) 12) (ltb (length (t ++ q)) 12) (longer t q 12) refl
+      passes (No 11) (ltb (length t) tagSize) (ltb (length (t ++ q)) tagSize) (longer t q tagSize) refl
       (λ e.
-      let l : 12 ≤ length t = ltb-false (length t) 12 e in
+      let l : tagSize ≤ length t = ltb-false (length t) tagSize e in
       rw (u32-append t q 0 (omega arith))
       (choose (No 11) (eqb (u32At t 0) (signatureOf Curv)) (λ _. table-more limit l)
       (λ _. choose (No 11) (eqb (u32At t 0) (signatureOf Para)) (λ _. para-more l) (λ _. inr refl))))
@@ -79,9 +80,9 @@ unfolding trcOf
 short walk limit p entry size h = rw (lt-ltb (length p) (entry + 4) h)
 
 -- sizes 1 to 11 are absent whatever the profile is
-pub small : (walk : Walk) (limit : ℕ) (p : List ℕ) (entry size : ℕ) → 1 ≤ size → size < 12 → trcOf walk limit p entry size ≡ absent
+pub small : (walk : Walk) (limit : ℕ) (p : List ℕ) (entry size : ℕ) → 1 ≤ size → size < tagSize → trcOf walk limit p entry size ≡ absent
 unfolding trcOf
-small walk limit p entry size h l = rw (le-leb 1 size h, lt-ltb size 12 l) (by (ltb (length p) (entry + 4)))
+small walk limit p entry size h l = rw (le-leb 1 size h, lt-ltb size tagSize l) (by (ltb (length p) (entry + 4)))
   where
     by : (b : Bool) → cond b absent absent ≡ absent
     by true = refl
@@ -90,16 +91,16 @@ small walk limit p entry size h l = rw (le-leb 1 size h, lt-ltb size 12 l) (by (
 -- the tag wants four bytes that the profile has not, and its size does not rule it out
 pub record Wanting (p : List ℕ) (entry size : ℕ) : Type 0 where
   pub four : length p < entry + 4
-  pub sized : (size ≡ 0) ⊎ (12 ≤ size)
+  pub sized : (size ≡ 0) ⊎ (tagSize ≤ size)
 
 -- a size is 0, from 12 on, or between
-by-size : (size : ℕ) → ((size ≡ 0) ⊎ (12 ≤ size)) ⊎ ((1 ≤ size) × (size < 12))
-by-size size = by (eqb size 0) refl (ltb size 12) refl
+by-size : (size : ℕ) → ((size ≡ 0) ⊎ (tagSize ≤ size)) ⊎ ((1 ≤ size) × (size < tagSize))
+by-size size = by (eqb size 0) refl (ltb size tagSize) refl
   where
-    by : (b : Bool) → eqb size 0 ≡ b → (c : Bool) → ltb size 12 ≡ c → ((size ≡ 0) ⊎ (12 ≤ size)) ⊎ ((1 ≤ size) × (size < 12))
+    by : (b : Bool) → eqb size 0 ≡ b → (c : Bool) → ltb size tagSize ≡ c → ((size ≡ 0) ⊎ (tagSize ≤ size)) ⊎ ((1 ≤ size) × (size < tagSize))
     by true e c f = inl (inl (eqb-true size 0 e))
-    by false e true f = inr (omega (arith, eqb-false size 0 e), ltb-true size 12 f)
-    by false e false f = inl (inr (ltb-false size 12 f))
+    by false e true f = inr (omega (arith, eqb-false size 0 e), ltb-true size tagSize f)
+    by false e false f = inl (inr (ltb-false size tagSize f))
 
 -- bytes behind the profile
 pub more-bytes : (walk : Walk) (limit : ℕ) (p q : List ℕ) (entry size : ℕ) → Wanting p entry size ⊎ Grows (Is 11) (trcOf walk limit p entry size) (trcOf walk limit (p ++ q) entry size)
@@ -114,9 +115,9 @@ more-bytes walk limit p q entry size = by (ltb (length p) (entry + 4)) refl
     by false e =
         inr
         (rw (e, longer p q (entry + 4) e)
-        (choose (Is 11) (leb 1 size && ltb size 12) (λ _. inr refl)
+        (choose (Is 11) (leb 1 size && ltb size tagSize) (λ _. inr refl)
         (λ _. passes (Is 11) (ltb (length p) (entry + size)) (ltb (length (p ++ q)) (entry + size)) (longer p q (entry + size)) refl
-        (λ f. answered walk 12 11 _ _ (tag-more limit p q entry size (eqb size 0) (ltb-false (length p) (entry + size) f))))))
+        (λ f. answered walk tagSize 11 _ _ (tag-more limit p q entry size (eqb size 0) (ltb-false (length p) (entry + size) f))))))
 
 -- ---- a higher limit
 
@@ -130,16 +131,16 @@ table-limit low high t h =
 pub curve-limit : (low high : ℕ) (t : List ℕ) → low ≤ high → Grows (No 10) (curveOf low t) (curveOf high t)
 unfolding curveOf
 curve-limit low high t h =
-    choose (No 10) (ltb (length t) 12) (λ _. inr refl)
+    choose (No 10) (ltb (length t) tagSize) (λ _. inr refl)
     (λ _. choose (No 10) (eqb (u32At t 0) (signatureOf Curv)) (λ _. table-limit low high t h) (λ _. inr refl))
 
 pub more-limit : (walk : Walk) (low high : ℕ) (p : List ℕ) (entry size : ℕ) → low ≤ high → Grows (Is 10) (trcOf walk low p entry size) (trcOf walk high p entry size)
 unfolding trcOf
 more-limit walk low high p entry size h =
     choose (Is 10) (ltb (length p) (entry + 4)) (λ _. inr refl)
-    (λ _. choose (Is 10) (leb 1 size && ltb size 12) (λ _. inr refl)
+    (λ _. choose (Is 10) (leb 1 size && ltb size tagSize) (λ _. inr refl)
     (λ _. choose (Is 10) (ltb (length p) (entry + size)) (λ _. inr refl)
-    (λ _. answered walk 12 10 _ _ (curve-limit low high (tagOf p entry size) h))))
+    (λ _. answered walk tagSize 10 _ _ (curve-limit low high (tagOf p entry size) h))))
 
 -- ---- both
 

@@ -20,7 +20,7 @@ pub data Answer : Type 0 where
   absent : Answer
   refused : ℕ → Answer
 
--- the ten words of a record
+-- the words of a record
 abbrev pub words : CurveRecord → List ℕ
 words r = r .kind ∷ r .start ∷ r .count ∷ r .g ∷ r .a ∷ r .b ∷ r .c ∷ r .d ∷ r .e ∷ r .f ∷ []
 

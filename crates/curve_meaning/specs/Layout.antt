@@ -11,15 +11,19 @@ use mathlib.Core.List.{List, [], _∷_}
 use lib.ListN.{getD}
 use Rattle.fields.specs.Bytes.{u16At, u32At, wordsAt}
 
+-- where the entries or the parameters begin
+abbrev pub dataStart : ℕ
+dataStart = 12
+
 -- curveType: how many entries follow, and how far n of them reach
 abbrev pub entryCount : List ℕ → ℕ
 entryCount t = u32At t 8
 
 abbrev pub entriesEnd : ℕ → ℕ
-entriesEnd n = 12 + 2 * n
+entriesEnd n = dataStart + 2 * n
 
--- parametricCurveType: the function, how many parameters one of a type has (g; g a b; g a b c; g a b c d; g a b c d e f), and how
--- far n of them reach
+-- parametricCurveType: the function, how many parameters one of a type has (g; g a b; g a b c; g a b c d; g a b c d e f), how far n of
+-- them reach, and which they are
 abbrev pub functionType : List ℕ → ℕ
 functionType t = u16At t 8
 
@@ -30,7 +34,10 @@ unfoldable pub parameterCount : ℕ → ℕ
 parameterCount type = getD row type 0
 
 abbrev pub parametersEnd : ℕ → ℕ
-parametersEnd n = 12 + 4 * n
+parametersEnd n = dataStart + 4 * n
+
+abbrev pub parametersAt : List ℕ → ℕ → List ℕ
+parametersAt t n = wordsAt t dataStart n
 
 abbrev pub parameters : List ℕ → List ℕ
-parameters t = wordsAt t 12 (parameterCount (functionType t))
+parameters t = parametersAt t (parameterCount (functionType t))

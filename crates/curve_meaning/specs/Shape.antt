@@ -44,7 +44,17 @@ abbrev pub recordOf : ℕ → ℕ → ℕ → List ℕ → List ℕ
 recordOf kind start count ps =
     kind ∷ start ∷ count ∷ getD ps 0 0 ∷ getD ps 1 0 ∷ getD ps 2 0 ∷ getD ps 3 0 ∷ getD ps 4 0 ∷ getD ps 5 0 ∷ getD ps 6 0 ∷ []
 
+-- the kinds: an empty curve, a table, a function by its type
+abbrev pub emptyKind : ℕ
+emptyKind = 0
+
+abbrev pub tableKind : ℕ
+tableKind = 1
+
+abbrev pub paraKind : ℕ → ℕ
+paraKind type = 2 + type
+
 unfoldable pub wordsOf : ℕ → Shape → List ℕ
-wordsOf start empty = recordOf 0 start 0 []
-wordsOf start (table n) = recordOf 1 start n []
-wordsOf start (para type ps) = recordOf (2 + type) start (parameterCount type) ps
+wordsOf start empty = recordOf emptyKind start 0 []
+wordsOf start (table n) = recordOf tableKind start n []
+wordsOf start (para type ps) = recordOf (paraKind type) start (parameterCount type) ps

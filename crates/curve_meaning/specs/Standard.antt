@@ -6,6 +6,7 @@ use mathlib.Core.List.{List, [], _∷_, _++_}
 use lib.ListN.{length, take, drop}
 use Rattle.icc.specs.Curves.{Curve, sampled, parametric, curveElement, type0, type1, type2, type3, type4, encoded, parameters, Defined}
 use Rattle.icc.specs.Numbers.{Is32, Each32}
+use Rattle.fields.specs.House.{tagSize}
 use Rattle.curve_meaning.specs.Shape.{Shape, empty, table, para}
 use Rattle.curve_meaning.specs.declared.Walk.{Walk}
 use Rattle.curve_meaning.specs.declared.Walk.the-variants.{Crate, Book}
@@ -17,16 +18,16 @@ shapeOf (sampled reserved (e ∷ es)) = table (length (e ∷ es))
 shapeOf (parametric reserved reserved2 f) = para (encoded f) (parameters f)
 
 -- numbers of 32 bits, no more entries than the limit, and no division by 0
-unfoldable pub Fits : ℕ → Curve → Type 0
-Fits limit (sampled reserved entries) = Is32 (length entries) × (length entries ≤ limit)
-Fits limit (parametric reserved reserved2 f) = Each32 (parameters f) × Defined f
+unfoldable pub CurveFits : ℕ → Curve → Type 0
+CurveFits limit (sampled reserved entries) = Is32 (length entries) × (length entries ≤ limit)
+CurveFits limit (parametric reserved reserved2 f) = Each32 (parameters f) × Defined f
 
 -- the bytes t begin with a curve that is answered by the shape
-pub record Begins (limit : ℕ) (t : List ℕ) (s : Shape) : Type 0 where
+pub record BeginsCurve (limit : ℕ) (t : List ℕ) (s : Shape) : Type 0 where
   pub curve : Curve
   pub rest : List ℕ
   pub shape-is : s ≡ shapeOf curve
-  pub fits : Fits limit curve
+  pub fits : CurveFits limit curve
   pub is : t ≡ curveElement curve ++ rest
 
 -- the words of a record: kind, where the data start, how many there are, and g a b c d e f, unused ones 0
@@ -55,7 +56,7 @@ Tag profile entry (suc n) t = (take (suc n) (drop entry profile) ≡ t) × (entr
 pub record Lone (walk : Walk) (limit : ℕ) (profile : List ℕ) (entry size : ℕ) (ws : List ℕ) (consumed : ℕ) : Type 0 where
   pub curve : Curve
   pub rest : List ℕ
-  pub fits : Fits limit curve
-  pub words-are : ws ≡ recordTold 12 curve
+  pub fits : CurveFits limit curve
+  pub words-are : ws ≡ recordTold tagSize curve
   pub consumed-is : consumed ≡ stepTold walk curve
   pub stands : Tag profile entry size (curveElement curve ++ rest)

@@ -5,13 +5,20 @@ use fields::Refusal;
 // The words of a record.
 pub const RECORD_WORDS: usize = 10;
 
+// The kinds of a record: an empty curve, a table, and the first of the functions, whose type is added.
+pub const EMPTY_KIND: u32 = 0;
+
+pub const TABLE_KIND: u32 = 1;
+
+pub const PARA_KIND: u32 = 2;
+
 // How a run of curves steps over an empty one: by nothing, as the Rust does, or by its 12 bytes, as the standard lays it out.
 pub enum Walk {
     Crate,
     Book,
 }
 
-// A curve: its kind (0 empty, 1 table, 2 + function type), where its data start in the tag, how many entries or parameters it
+// A curve: its kind, where its data start in the tag, how many entries or parameters it
 // has, and the parameters by their names in the standard, each a signed word in two's complement, those unused 0.
 pub struct CurveRecord {
     pub kind: u32,

@@ -1,25 +1,26 @@
 -- There is a library that keeps the contracts, that of specs/Kept.antt, so no demand holds for want of one. The result that stands for an answer
 -- has its numbers: a meaning refuses with numbers of refusals only, and its values have as many numbers as the code's.
 -- Assumes nothing.
-use Prim.Native.Nat.{ℕ, _+_, _-_, _*_, _/_}
+use Prim.Native.Nat.{ℕ, _+_, _*_, _/_}
 use mathlib.Core.Path.{_≡_, refl, ap, subst}
 use mathlib.Core.Bool.{not, _&&_, _||_}
 use mathlib.Core.List.{List}
 use lib.Dec.{ltb, leb, eqb}
-use lib.ListN.{length, getD, drop}
+use lib.ListN.{length, drop}
 use Rattle.fields.specs.Checked.{Checked, good, bad}
 use Rattle.fields.specs.Bytes.{u32At, bytesAt, wordsAt}
-use Rattle.fields.specs.Place.{tagAt, countedSize}
-use Rattle.fields.specs.Refusals.{refusalNumber, pastProfile}
+use Rattle.fields.specs.Place.{tagAt, countedSize, countedTag}
+use Rattle.fields.specs.Refusals.{refusalNumber}
+use Rattle.fields.specs.House.{tagSize}
 use Rattle.fields.specs.Tag.{signatureOf}
-use Rattle.fields.specs.declared.Kind.the-variants.{Curv, Para, Text, Mluc, Desc, Sf32}
+use Rattle.fields.specs.declared.Kind.the-variants.{Text, Mluc, Desc}
 use Rattle.fields.proofs.Choice.{each}
 use Rattle.fields.proofs.Numbers.{nameOf}
 use Rattle.curve_meaning.specs.Answer.{Answer as Curve·Answer, answerOf, inNumbers as Curve·inNumbers}
-use Rattle.curve_meaning.specs.Curve.{trcOf, curveOf, curvOf, paraOf, divides, tagOf as Curve·tagOf}
-use Rattle.curve_meaning.specs.Layout.{entryCount, entriesEnd, functionType, parameterCount, parametersEnd, parameters}
+use Rattle.curve_meaning.specs.Curve.{trcOf, curveOf, tagOf as Curve·tagOf}
 use Rattle.curve_meaning.specs.Shape.{Shape, empty, table, para, recordWords, wordsOf}
 use Rattle.curve_meaning.specs.declared.Walk.{Walk}
+use Rattle.curve_meaning.proofs.Every.{curve-each, trc-each}
 use Rattle.curve_meaning.proofs.Unique.{resultFrom as Curve·resultFrom}
 use Rattle.lut_run_meaning.specs.Run.{curveAtOffset, runAt}
 use Rattle.lut_run_meaning.proofs.Runs.{run-induct}
@@ -37,15 +38,15 @@ use Rattle.lut_meaning.specs.Parts.{runsChecked, matrixChecked}
 use Rattle.lut_meaning.proofs.Unique.{answerTo, lutTo}
 use Rattle.text_meaning.specs.Answer.{Answer as Text·Answer, inNumbers as Text·inNumbers}
 use Rattle.text_meaning.specs.Layout.{asciiEnd}
-use Rattle.text_meaning.specs.Mluc.{RecordsEnd as Mluc·RecordsEnd, whole as Mluc·whole, stopped as Mluc·stopped, header, string as string-fault, recordsIn, recordsAsked, recordWords as textWords}
-use Rattle.text_meaning.specs.Text.{stringOf, byType as Text·byType, textOf, mlucOf, descOf, endedBy, slottedOf, tagOf as Text·tagOf}
+use Rattle.text_meaning.specs.Mluc.{RecordsEnd as Mluc·RecordsEnd, whole as Mluc·whole, stopped as Mluc·stopped, header, string as string-fault, recordsIn, recordsAsked, textRecordWords as textWords}
+use Rattle.text_meaning.specs.Text.{stringOf, byType as Text·byType, textOf, mlucOf, descOf, endedBy, slottedOf}
 use Rattle.text_meaning.proofs.Unique.{resultTo as Text·resultTo}
 use Rattle.small_meaning.specs.Answer.{Answer as Small·Answer}
 use Rattle.small_meaning.specs.Layout.{nineNumbers, signatureIn, dateBytes, measurement, conditions, firstXyz, codePoints}
-use Rattle.small_meaning.specs.Order.{answerTo as Small·answerTo}
-use Rattle.small_meaning.specs.Small.{matrixOf, chadOf, windowOf, tripleOf}
-use Rattle.small_meaning.specs.declared.Found.{Found}
+use Rattle.small_meaning.specs.Small.{windowOf, tripleOf}
 use Rattle.lut_view_meaning.specs.Answer.{Answer, inNumbers as View·inNumbers, resultFrom as View·resultFrom}
+use Rattle.small_meaning.proofs.Last.{chad-each}
+use Rattle.small_meaning.proofs.Order.{order-each}
 use Rattle.lut_view_meaning.specs.View.{tableBy, entryOf}
 use Rattle.demands.specs.Readers.{Small, chad, sig, date, meas, view, xyz, cicp, Reader, lut, trc, string, small, Call, smallNumbers, smallOf, numbers, meaning, Promised}
 use Rattle.demands.specs.Demands.{Demand1, Demand2, Demand3}
@@ -69,63 +70,35 @@ CheckedKnown (bad n) = Known n
 Shown : Small → Small·Answer → Type 0
 Shown s a = smallNumbers s (smallResult s a) ≡ a
 
-by-order : (P : Small·Answer → Type 0) (f : Found) (short other this : Small·Answer) → P short → P (Small·Answer.refused pastProfile) → P other → P this → P (Small·answerTo f short other this)
-unfolding Small·answerTo
-by-order P Found.Short short other this a b c d = a
-by-order P Found.Past short other this a b c d = b
-by-order P Found.Other short other this a b c d = c
-by-order P (Found.Tag from to) short other this a b c d = d
-
-chad-shown : (p : List ℕ) (at size : ℕ) → Shown chad (chadOf p at size)
-unfolding Shown chadOf matrixOf nineNumbers wordsAt
-chad-shown p at size =
-    let P = Shown chad in
-    let t = tagAt p at size in
-    each P (ltb (length p) (at + size)) _ _ (λ _. refl)
-    (λ _. each P (ltb (length p) (at + 8)) _ _ (λ _. refl)
-    (λ _. each P (ltb size 8) _ _ (λ _. refl)
-    (λ _. each P (eqb ((size - 8) / 4) 9) _ _
-    (λ _. each P (eqb (u32At t 0) (signatureOf Sf32)) _ _ (λ _. each P (eqb (length t) 44) _ _ (λ _. refl) (λ _. refl)) (λ _. refl)) (λ _. refl))))
-
 small-shown : (s : Small) (p : List ℕ) (at size : ℕ) → Shown s (smallOf s p at size)
-unfolding Shown signatureIn dateBytes measurement conditions firstXyz codePoints windowOf tripleOf wordsAt bytesAt
-small-shown chad p at size = chad-shown p at size
-small-shown sig p at size = by-order (Shown sig) _ _ _ _ refl refl refl refl
-small-shown date p at size = by-order (Shown date) _ _ _ _ refl refl refl refl
-small-shown meas p at size =
-    by-order (Shown meas) _ _ _ _ refl refl refl (each (Shown meas) (ltb (length p) (at + 36)) _ _ (λ _. refl) (λ _. refl))
-small-shown view p at size = by-order (Shown view) _ _ _ _ refl refl refl refl
+unfolding Shown nineNumbers signatureIn dateBytes measurement conditions firstXyz codePoints windowOf tripleOf wordsAt bytesAt
+small-shown chad p at size = chad-each (Shown chad) refl refl refl (λ t. refl) p at size
+small-shown sig p at size = order-each (Shown sig) _ refl refl refl refl
+small-shown date p at size = order-each (Shown date) _ refl refl refl refl
+small-shown meas p at size = order-each (Shown meas) _ refl refl refl (each (Shown meas) (ltb (length p) (at + 36)) _ _ (λ _. refl) (λ _. refl))
+small-shown view p at size = order-each (Shown view) _ refl refl refl refl
 small-shown xyz p at size =
-    by-order (Shown xyz) _ _ _ _ refl refl refl (each (Shown xyz) (ltb (length (tagAt p at size)) 20) _ _ (λ _. refl) (λ _. refl))
-small-shown cicp p at size = by-order (Shown cicp) _ _ _ _ refl refl refl refl
+    order-each (Shown xyz) _ refl refl refl (each (Shown xyz) (ltb (length (tagAt p at size)) 20) _ _ (λ _. refl) (λ _. refl))
+small-shown cicp p at size = order-each (Shown cicp) _ refl refl refl refl
 
 -- ---- the tone curve
 
+-- what is seen is a curve, or refused with a known number
+CheckedKnown : Checked Shape → Type 0
+CheckedKnown (good s) = Unit
+CheckedKnown (bad n) = Known n
+
 curve-known : (limit : ℕ) (t : List ℕ) → CheckedKnown (curveOf limit t)
-unfolding CheckedKnown curveOf curvOf paraOf
-curve-known limit t =
-    let P = CheckedKnown {A = Shape} in
-    let n = entryCount t in
-    let type = functionType t in
-    each P (ltb (length t) 12) _ _ (λ _. refl)
-    (λ _. each P (eqb (u32At t 0) (signatureOf Curv)) _ _
-    (λ _. each P (eqb n 0) _ _ (λ _. tt)
-    (λ _. each P (ltb limit n) _ _ (λ _. refl) (λ _. each P (ltb (length t) (entriesEnd n)) _ _ (λ _. refl) (λ _. tt))))
-    (λ _. each P (eqb (u32At t 0) (signatureOf Para)) _ _
-    (λ _. each P (ltb 4 type) _ _ (λ _. refl)
-    (λ _. each P (ltb (length t) (parametersEnd (parameterCount type))) _ _ (λ _. refl)
-    (λ _. each P (divides type && eqb (getD (parameters t) 1 0) 0) _ _ (λ _. refl) (λ _. tt))))
-    (λ _. refl)))
+unfolding CheckedKnown
+curve-known = curve-each CheckedKnown (λ _. tt) refl refl refl refl refl
 
 trc-shown : (walk : Walk) (limit : ℕ) (p : List ℕ) (at size : ℕ) → Curve·inNumbers (Curve·resultFrom (trcOf walk limit p at size)) ≡ trcOf walk limit p at size
-unfolding trcOf CheckedKnown answerOf wordsOf
+unfolding CheckedKnown answerOf wordsOf
 trc-shown walk limit p at size =
-    let P : Curve·Answer → Type 0 = λ a. Curve·inNumbers (Curve·resultFrom a) ≡ a in
-    each P (ltb (length p) (at + 4)) _ _ (λ _. refl)
-    (λ _. each P (leb 1 size && ltb size 12) _ _ (λ _. refl)
-    (λ _. each P (ltb (length p) (at + size)) _ _ (λ _. refl) (λ _. by (curveOf limit (Curve·tagOf p at size)) (curve-known limit (Curve·tagOf p at size)))))
+    let t = Curve·tagOf p at size in
+    trc-each (λ a. Curve·inNumbers (Curve·resultFrom a) ≡ a) refl refl walk limit p at size (by (curveOf limit t) (curve-known limit t))
   where
-    by : (x : Checked Shape) → CheckedKnown x → Curve·inNumbers (Curve·resultFrom (answerOf walk 12 x)) ≡ answerOf walk 12 x
+    by : (x : Checked Shape) → CheckedKnown x → Curve·inNumbers (Curve·resultFrom (answerOf walk tagSize x)) ≡ answerOf walk tagSize x
     by (good empty) k = refl
     by (good (table n)) k = refl
     by (good (para type ps)) k = refl
@@ -226,7 +199,7 @@ text-shown : (p : List ℕ) (at size words : ℕ) → Text·inNumbers (Text·res
 unfolding stringOf Text·byType textOf mlucOf descOf slottedOf
 text-shown p at size words =
     let P : Text·Answer → Type 0 = λ a. Text·inNumbers (Text·resultTo a) ≡ a in
-    let t = Text·tagOf p at size in
+    let t = countedTag p at size in
     each P (ltb (countedSize size) 4) _ _ (λ _. refl)
     (λ _. each P (ltb (length p) (at + countedSize size)) _ _ (λ _. refl)
     (λ _. each P (ltb (countedSize size) 8) _ _ (λ _. refl)

@@ -18,7 +18,7 @@ use Rattle.fields.specs.Refusals.{tooFewSlots}
 use Rattle.fields.specs.Tag.{signatureOf}
 use Rattle.curve_meaning.specs.Cases.{none, two}
 use Rattle.curve_meaning.specs.Shape.{Shape, empty, table, para, recordWords, wordsOf}
-use Rattle.curve_meaning.specs.Standard.{Fits, recordTold, Tag}
+use Rattle.curve_meaning.specs.Standard.{CurveFits, recordTold, Tag}
 use Rattle.curve_meaning.specs.declared.Walk.the-variants.{Crate, Book}
 use Rattle.lut_run_meaning.specs.Run.{aligned}
 use Rattle.lut_run_meaning.specs.Standard.{Passes, recordsTold}
@@ -38,13 +38,13 @@ use Rattle.demands.proofs.Cases.{book-walk}
 use Rattle.demands.proofs.Ends.{ends-so}
 
 refuses-all : (l : Library) → Demand2 (refusesAll l) → ⊥
-unfolding Fits Tag curveElement curveType each16
+unfolding CurveFits Tag curveElement curveType each16
 refuses-all l d =
     let e = d .curve-read Crate (lone none 12) (sampled 0 []) [] (omega arith, omega arith) (refl, omega arith) in
     never cc
 
 always-identity : (l : Library) → Demand2 (alwaysIdentity l) → ⊥
-unfolding Fits Tag curveElement curveType each16 recordTold
+unfolding CurveFits Tag curveElement curveType each16 recordTold
 always-identity l d =
     let e = d .curve-read Crate (lone two 16) (sampled 0 (0 ∷ 65535 ∷ [])) [] (omega arith, omega arith) (refl, omega arith) in
     never cc
@@ -115,7 +115,7 @@ parts-taken =
     }
 
 curves-taken : CurvesTaken Book houseEntries curves
-unfolding Each Fits Passes parameters Defined
+unfolding Each CurveFits Passes parameters Defined
 curves-taken =
     record {
       a-fit = tt;

@@ -13,7 +13,7 @@ use Rattle.curve_meaning.specs.Curve.{trcOf}
 use Rattle.curve_meaning.specs.declared.Walk.the-variants.{Crate, Book}
 use Rattle.lut_meaning.specs.Cases.{tag as threeCurves, threeB, plain, slots, emptyAt, straightAt}
 use Rattle.text_meaning.specs.Answer.{mluc}
-use Rattle.text_meaning.specs.Cases.{five, slots as textSlots, recordOf}
+use Rattle.text_meaning.specs.Cases.{five, slots as textSlots, englishRecord}
 use Rattle.demands.specs.Readers.{Reader, lut, trc, string, Call, Numbers, meaning, slotsAfter, outcome, refused}
 
 pub data Case : Type 0 where
@@ -139,7 +139,7 @@ abbrev pub oneString : Case
 oneString = answers string (call five 33 (textSlots 1)) (mluc 1)
 
 abbrev pub stringRecord : Case
-stringRecord = leaves string (call five 33 (textSlots 1)) (recordOf 28 4)
+stringRecord = leaves string (call five 33 (textSlots 1)) (englishRecord 28 4)
 
 abbrev pub cases : List Case
 cases =

@@ -10,8 +10,7 @@ use lib.ListN.{length, getD, take, drop, replicate}
 use Rattle.icc.specs.Curves.{Curve, curveElement}
 use Rattle.icc.specs.Elements.{LutParts, LutTag}
 use Rattle.icc.specs.Numbers.{Is32, Each16, Each32, Bytes}
-use Rattle.icc.specs.Small.{DateTime, dateTimeNumber, s15Fixed16ArrayType, signatureType, dateTimeType, measurementType}
-use Rattle.icc.specs.Small.{viewingConditionsType, cicpType}
+use Rattle.icc.specs.Small.{DateTime, dateTimeNumber, s15Fixed16ArrayType, signatureType, dateTimeType, measurementType, viewingConditionsType, cicpType}
 use Rattle.icc.specs.Tables.{Lut, nine, Sized, Entries16, lut16Type, lut8Type}
 use Rattle.icc.specs.Text.{Ascii, terminated, textType, Description, IsDescription, textDescriptionType, LocalizedTag}
 use Rattle.fields.specs.Bytes.{u16At, u32At, wordsAt}
@@ -24,7 +23,7 @@ use Rattle.lut_clut_meaning.specs.Table.{Table, inGrid, entryNumber}
 use Rattle.curve_meaning.specs.Answer.{Answer as Curve·Answer}
 use Rattle.curve_meaning.specs.Curve.{tagOf as Curve·tagOf}
 use Rattle.curve_meaning.specs.Shape.{empty, wordsOf, recordWords}
-use Rattle.curve_meaning.specs.Standard.{Fits, recordTold, stepTold, Tag, Lone}
+use Rattle.curve_meaning.specs.Standard.{CurveFits, recordTold, stepTold, Tag, Lone}
 use Rattle.curve_meaning.specs.declared.Walk.{Walk}
 use Rattle.lut_run_meaning.specs.Run.{Placed, placed, CurveStands, dataEnd}
 use Rattle.lut_mft_meaning.specs.Answer.{Fields, toldTable as Mft·toldTable}
@@ -35,25 +34,22 @@ use Rattle.lut_meaning.specs.Layout.{planOf, recordsNeeded}
 use Rattle.lut_meaning.specs.Parts.{curvesOf}
 use Rattle.lut_meaning.specs.Standard.{Counts, answerTold, recordsWritten, PartsTaken, CurvesTaken, PartsAs, TagAs, PassesBy}
 use Rattle.text_meaning.specs.Answer.{Answer as Text·Answer, Span, span, Unicode}
-use Rattle.text_meaning.specs.Mluc.{recordsAsked, recordWords as textWords}
-use Rattle.text_meaning.specs.Standard.{TagInside as Text·TagInside, BeginsText, descriptionTold, BeginsDescription, Asked as MlucAsked}
-use Rattle.text_meaning.specs.Standard.{localizedTold, ReadLocalized}
+use Rattle.text_meaning.specs.Mluc.{recordsAsked, textRecordWords as textWords}
+use Rattle.text_meaning.specs.Standard.{TextTagInside, BeginsText, descriptionTold, BeginsDescription, Asked as MlucAsked, localizedTold, ReadLocalized}
 use Rattle.small_meaning.specs.Answer.{Answer as Small·Answer}
-use Rattle.small_meaning.specs.Standard.{signatureTold, someXyzType, firstTold, measurementTold, viewTold, cicpTold, WrittenRead}
-use Rattle.small_meaning.specs.Standard.{ReadWritten, BeginsNine, BeginsDate}
+use Rattle.small_meaning.specs.Standard.{signatureTold, someXyzType, firstTold, measurementTold, viewTold, cicpTold, WrittenRead, ReadWritten, BeginsNine, BeginsDate}
 use Rattle.lut_view_meaning.specs.Answer.{Answer, inNumbers as View·inNumbers}
 use Rattle.lut_view_meaning.specs.Standard.{ShowsColours, ShowsClut}
 use Rattle.lut_view_meaning.specs.View.{numbersOf, tableBy, storedAt}
 use Rattle.lut_view_meaning.specs.declared.TableNumbers.{TableNumbers}
-use Rattle.demands.specs.Readers.{Small, chad, sig, date, meas, view, xyz, cicp, Reader, lut, trc, string, small, Call, Result}
-use Rattle.demands.specs.Readers.{numbers, meaning, Outcome, value, default, absent, refused, Library, ends, Promised, answered}
+use Rattle.demands.specs.Readers.{Small, chad, sig, date, meas, view, xyz, cicp, Reader, lut, trc, string, small, Call, Result, numbers, meaning, Outcome, value, default, absent, refused, Library, ends, Promised, answered}
 
 -- the bytes of the tag in lookup tables and text, where a size of 0 counts as the shortest tag's, and that they lie in the profile
 abbrev pub tag : Call → List ℕ
 tag c = tagAt (c .profile) (c .entry) (countedSize (c .size))
 
 abbrev pub TagInside : Call → Type 0
-TagInside c = Text·TagInside (c .profile) (c .entry) (c .size)
+TagInside c = TextTagInside (c .profile) (c .entry) (c .size)
 
 -- those of a lone curve, to the profile's end where the size is 0
 abbrev pub curveTag : Call → List ℕ
@@ -273,7 +269,7 @@ pub record Demand2 (l : Library) : Type 0 where
   pub once : (r : Reader) (c : Call) (x : Result r) → numbers r x ≡ meaning r c → x ≡ l .returns r c
   -- a curveType or parametricCurveType is answered with the curve that was written
   pub curve-read : (walk : Walk) (c : Call) (x : Curve) (rest : List ℕ)
-      → Fits (c .entries) x
+      → CurveFits (c .entries) x
       → Tag (c .profile) (c .entry) (c .size) (curveElement x ++ rest)
       → answered l (trc walk) c ≡ Curve·Answer.value (recordTold 12 x) (stepTold walk x)
   -- and an answered curve is one that the standard writes

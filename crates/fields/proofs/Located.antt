@@ -11,7 +11,7 @@ use lib.Seq.{take-all}
 use lib.Dec.{leb}
 use borrow.Author.Tests.{leb-true, leb-false, le-leb, lt-leb}
 use Rattle.fields.proofs.Never.{never}
-use Rattle.fields.specs.Place.{placeOf}
+use Rattle.fields.specs.Place.{placeOf, countedSize, countedTag}
 use Rattle.fields.specs.declared.Place.{Place}
 use Rattle.fields.specs.declared.Place.the-variants.{In, Past}
 
@@ -70,3 +70,7 @@ module _ (n entry end : ℕ) {from to : ℕ} {r : Place} (h : r ≡ placeOf n en
 
   pub part-below : (p : List ℕ) → length p ≡ n → (k : ℕ) → end < k → length (take (to - from) (drop from p)) < k
   part-below p l k m = omega (arith, part-length p l)
+
+  -- the part of a profile where a tag of that size was found is the tag
+  pub counted-part : (p : List ℕ) (size : ℕ) → end ≡ countedSize size → take (to - from) (drop from p) ≡ countedTag p entry size
+  counted-part p size c = let w = inside n entry end h e in rw (w .from-is, w .to-is, part-is p entry end, c)

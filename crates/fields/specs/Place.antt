@@ -19,3 +19,7 @@ tagAt profile entry end = take end (drop entry profile)
 -- a size of 0 counts as the shortest tag's, in lookup tables and text
 abbrev pub countedSize : ℕ → ℕ
 countedSize size = cond (eqb size 0) tagSize size
+
+-- the bytes of a tag of that size
+abbrev pub countedTag : List ℕ → ℕ → ℕ → List ℕ
+countedTag profile entry size = tagAt profile entry (countedSize size)

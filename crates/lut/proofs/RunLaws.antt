@@ -24,7 +24,7 @@ use Rattle.curve_meaning.specs.declared.Step.{Step}
 use Rattle.curve_meaning.specs.declared.Walk.{Walk}
 use Rattle.curve_meaning.proofs.Inside.{step-most}
 use Rattle.curve_meaning.proofs.Step as steps
-use Rattle.curve_meaning.proofs.Told.{stepped, stepped-no}
+use Rattle.curve_meaning.proofs.Answered.{stepped, stepped-no}
 use Rattle.lut_run_meaning.specs.Run.{Run, aligned, curveAtOffset, runAt}
 use Rattle.lut_run_meaning.proofs.Runs.{entry-there, entry-inside, run-turn}
 use Rattle.lut_run_meaning.proofs.Writing.{Writing, words-length, next-is, turns}

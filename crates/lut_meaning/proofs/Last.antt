@@ -15,7 +15,7 @@ use Rattle.fields.specs.Place.{countedSize}
 use Rattle.fields.proofs.Choice.{each}
 use Rattle.lut_clut_meaning.specs.Clut.{tableAt, gridAt, some, isFlat, overflows, mostEntries, shapeOf, clutOf}
 use Rattle.lut_clut_meaning.specs.Table.{Table, entriesOf, lengthOf, lastOf, pointsOf}
-use Rattle.curve_meaning.specs.Shape.{Shape, recordWords}
+use Rattle.curve_meaning.specs.Shape.{recordWords}
 use Rattle.curve_meaning.specs.declared.Walk.{Walk}
 use Rattle.curve_meaning.proofs.Last.{Not14, other, curve-not-14}
 use Rattle.lut_mft_meaning.specs.Answer.{State as Mft·State, answerOf}

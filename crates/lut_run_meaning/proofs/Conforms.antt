@@ -16,7 +16,7 @@ use Rattle.icc.specs.Elements.{Stands, PlacedCurve, CurvesFrom}
 use Rattle.icc.specs.Numbers.{Bytes, NextMultipleOf4}
 use Rattle.fields.proofs.Written.{rest-bytes}
 use Rattle.curve_meaning.specs.Shape.{Shape, empty, table, para, sizeOf, stepOf, recordWords, wordsOf}
-use Rattle.curve_meaning.specs.Standard.{shapeOf, Fits}
+use Rattle.curve_meaning.specs.Standard.{shapeOf, CurveFits}
 use Rattle.curve_meaning.specs.declared.Walk.{Walk}
 use Rattle.curve_meaning.specs.declared.Walk.the-variants.{Crate, Book}
 use Rattle.curve_meaning.proofs.Inside.{book-step, size-least}
@@ -43,7 +43,7 @@ next-raised n next h =
 
 -- ---- one curve
 
-entry-written : (limit : ℕ) (t : List ℕ) (at : ℕ) (c : Curve) → Stands t at (curveElement c) → Fits limit c → curveAtOffset limit t at ≡ good (shapeOf c)
+entry-written : (limit : ℕ) (t : List ℕ) (at : ℕ) (c : Curve) → Stands t at (curveElement c) → CurveFits limit c → curveAtOffset limit t at ≡ good (shapeOf c)
 unfolding curveAtOffset
 entry-written limit t at c s f =
     let l : at + 12 ≤ length t = omega (arith, ap length (s .is), length-append (curveElement c) (s .behind), written-size c, size-least (shapeOf c), length-drop at t) in

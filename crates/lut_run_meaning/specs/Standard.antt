@@ -6,7 +6,7 @@ use lib.ListN.{getD}
 use Rattle.icc.specs.Each.{Each}
 use Rattle.icc.specs.Elements.{PlacedCurve, CurvesFrom}
 use Rattle.curve_meaning.specs.Shape.{empty, recordWords}
-use Rattle.curve_meaning.specs.Standard.{shapeOf, Fits, recordTold}
+use Rattle.curve_meaning.specs.Standard.{shapeOf, CurveFits, recordTold}
 use Rattle.curve_meaning.specs.declared.Walk.{Walk}
 use Rattle.curve_meaning.specs.declared.Walk.the-variants.{Crate, Book}
 use Rattle.lut_run_meaning.specs.Run.{Placed, placed}
@@ -16,7 +16,7 @@ abbrev pub seenOf : PlacedCurve → Placed
 seenOf c = placed (c .offset) (shapeOf (c .curve))
 
 abbrev pub AllFit : ℕ → List PlacedCurve → Type 0
-AllFit limit cs = Each (λ c. Fits limit (c .curve)) cs
+AllFit limit cs = Each (λ c. CurveFits limit (c .curve)) cs
 
 -- the walk steps over each curve but the last: the book walk does; the crate walk does where none of them is empty
 unfoldable pub Passes : Walk → List Placed → Type 0

@@ -1,11 +1,11 @@
--- The layout and the meaning case by case, as the code meets them: each law takes what the tests and the calls on the way told.
+-- The meaning case by case, as the code meets them: each law takes what the tests and the calls on the way told.
 -- Assumes nothing.
 use Prim.Native.Nat.{ℕ, _-_, _/_, _≤_, _<_}
 use mathlib.Core.Path.{_≡_}
-use mathlib.Core.List.{List, [], _∷_}
+use mathlib.Core.List.{List}
 use lib.ListN.{length, take, drop}
 use borrow.Author.Tests.{eq-eqb, ne-eqb, lt-ltb, le-ltb}
-use Rattle.fields.specs.Bytes.{u32At, wordsAt}
+use Rattle.fields.specs.Bytes.{u32At}
 use Rattle.fields.specs.Place.{placeOf}
 use Rattle.fields.specs.Tag.{signatureOf}
 use Rattle.fields.specs.declared.Kind.the-variants.{Sf32}
@@ -14,24 +14,20 @@ use Rattle.fields.specs.declared.Place.the-variants.{In, Past}
 use Rattle.fields.proofs.Located.{inside, past, part-is}
 use Rattle.small_meaning.specs.Answer.{Answer, value, absent, refused}
 use Rattle.small_meaning.specs.Layout.{nineNumbers}
-use Rattle.small_meaning.specs.Small.{matrixOf, chadOf}
-
-pub nine-are : (t : List ℕ) (a b c d e f g h i : ℕ) → a ≡ u32At t 8 → b ≡ u32At t 12 → c ≡ u32At t 16 → d ≡ u32At t 20 → e ≡ u32At t 24 → f ≡ u32At t 28 → g ≡ u32At t 32 → h ≡ u32At t 36 → i ≡ u32At t 40 → a ∷ b ∷ c ∷ d ∷ e ∷ f ∷ g ∷ h ∷ i ∷ [] ≡ nineNumbers t
-unfolding nineNumbers wordsAt
-nine-are t a b c d e f g h i e₁ e₂ e₃ e₄ e₅ e₆ e₇ e₈ e₉ = simp (e₁, e₂, e₃, e₄, e₅, e₆, e₇, e₈, e₉)
+use Rattle.small_meaning.specs.Small.{chadMatrixOf, chadOf}
 
 module _ (t : List ℕ) (w : ℕ) (h : w ≡ u32At t 0) where
-  pub matrix-other : (w ≡ signatureOf Sf32 → ⊥) → refused 17 ≡ matrixOf t
-  unfolding matrixOf
+  pub matrix-other : (w ≡ signatureOf Sf32 → ⊥) → refused 17 ≡ chadMatrixOf t
+  unfolding chadMatrixOf
   matrix-other e = simp (← h, ne-eqb _ _ e)
 
   module _ (s : w ≡ signatureOf Sf32) where
-    pub matrix-size : (length t ≡ 44 → ⊥) → refused 17 ≡ matrixOf t
-    unfolding matrixOf
+    pub matrix-size : (length t ≡ 44 → ⊥) → refused 17 ≡ chadMatrixOf t
+    unfolding chadMatrixOf
     matrix-size e = simp (← h, eq-eqb _ _ s, ne-eqb _ _ e)
 
-    pub matrix-value : (ws : List ℕ) → length t ≡ 44 → ws ≡ nineNumbers t → value ws ≡ matrixOf t
-    unfolding matrixOf
+    pub matrix-value : (ws : List ℕ) → length t ≡ 44 → ws ≡ nineNumbers t → value ws ≡ chadMatrixOf t
+    unfolding chadMatrixOf
     matrix-value ws e n = simp (← h, eq-eqb _ _ s, eq-eqb _ _ e, n)
 
 module _ (p : List ℕ) (entry size : ℕ) (place : Place) (h : place ≡ placeOf (length p) entry size) where
@@ -53,7 +49,7 @@ module _ (p : List ℕ) (entry size : ℕ) (place : Place) (h : place ≡ placeO
       unfolding chadOf
       chad-count l n = simp (le-ltb _ _ (inside _ _ _ h e .fits), le-ltb _ _ (inside _ _ _ g f .fits), le-ltb _ _ l, ne-eqb _ _ n)
 
-      pub chad-tag : (r : Answer) → 8 ≤ size → (size - 8) / 4 ≡ 9 → r ≡ matrixOf (take (to - from) (drop from p)) → r ≡ chadOf p entry size
+      pub chad-tag : (r : Answer) → 8 ≤ size → (size - 8) / 4 ≡ 9 → r ≡ chadMatrixOf (take (to - from) (drop from p)) → r ≡ chadOf p entry size
       unfolding chadOf
       chad-tag r l n w =
           let i = inside _ _ _ h e in

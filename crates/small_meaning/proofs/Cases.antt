@@ -7,8 +7,8 @@ use Rattle.fields.specs.Tag.{signatureOf}
 use Rattle.small_meaning.specs.Cases.{Holds, cases}
 use Rattle.small_meaning.specs.Layout.{nineNumbers, signatureIn, dateBytes, measurement, conditions, firstXyz, codePoints}
 use Rattle.small_meaning.specs.Order.{foundOf, answerTo}
-use Rattle.small_meaning.specs.Small.{matrixOf, chadOf, windowOf, tripleOf}
+use Rattle.small_meaning.specs.Small.{chadMatrixOf, chadOf, windowOf, tripleOf}
 
 pub claim : Each Holds cases
-unfolding Each Holds foundOf answerTo chadOf matrixOf windowOf tripleOf nineNumbers signatureIn dateBytes measurement conditions firstXyz codePoints bytesAt wordsAt signatureOf
+unfolding Each Holds foundOf answerTo chadOf chadMatrixOf windowOf tripleOf nineNumbers signatureIn dateBytes measurement conditions firstXyz codePoints bytesAt wordsAt signatureOf
 claim = (refl, (refl, (refl, (refl, (refl, (refl, (refl, (refl, (refl, (refl, (refl, (refl, (refl, (refl, (refl, (refl, (refl, (refl, (refl, (refl, (refl, (refl, (refl, (refl, (refl, (refl, (refl, (refl, (refl, (refl, (refl, (refl, (refl, (refl, (refl, (refl, (refl, (refl, (refl, (refl, (refl, tt)))))))))))))))))))))))))))))))))))))))))

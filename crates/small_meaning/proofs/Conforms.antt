@@ -22,7 +22,7 @@ use Rattle.fields.proofs.Words.{words-length}
 use Rattle.small_meaning.specs.Answer.{Answer, value, default, absent, refused, chadInNumbers, sigInNumbers, cicpInNumbers, xyzInNumbers, measInNumbers, viewInNumbers}
 use Rattle.small_meaning.specs.Layout.{nineNumbers, signatureIn, dateBytes, measurement, conditions, firstXyz, codePoints}
 use Rattle.small_meaning.specs.Order.{foundOf, answerTo}
-use Rattle.small_meaning.specs.Small.{matrixOf, chadOf, sigOf, dateOf, windowOf, measOf, viewOf, tripleOf, xyzOf, cicpOf}
+use Rattle.small_meaning.specs.Small.{chadMatrixOf, chadOf, sigOf, dateOf, windowOf, measOf, viewOf, tripleOf, xyzOf, cicpOf}
 use Rattle.small_meaning.specs.Standard.{signatureTold, SomeXyz, someXyzType, firstTold, measurementTold, viewTold, cicpTold, WrittenRead, ReadWritten, BeginsNine, BeginsDate}
 use Rattle.small_meaning.specs.declared.ChadAnswer.{ChadAnswer}
 use Rattle.small_meaning.specs.declared.CicpAnswer.{CicpAnswer}
@@ -221,7 +221,7 @@ nine-laid reserved ns n h =
     record { signature = refl; filled = omega (arith, length32 ns); given = rw (n, append-nil) at g }
 
 pub chad-read : (p : List ℕ) (entry size reserved : ℕ) (ns : List ℕ) → length ns ≡ 9 → Each32 ns → entry + size ≤ length p → take size (drop entry p) ≡ s15Fixed16ArrayType reserved ns → chadOf p entry size ≡ value ns
-unfolding chadOf matrixOf
+unfolding chadOf chadMatrixOf
 chad-read p entry size reserved ns n h i e =
     let w = nine-laid reserved ns n h in
     let k : size ≡ 44 = omega (arith, ap length e, w .filled, length-take size (drop entry p), length-drop entry p) in
@@ -239,7 +239,7 @@ chad-written p entry size ws b v =
     let g : wordsAt t 8 9 ≡ ws = h .given in
     let none : drop 44 t ≡ [] = drop-of-length-le t {i = 44} (omega (arith, h .filled)) in
     let r = row-is t (part-bytes p b entry size) 0x73663332 9 (omega (arith, h .filled)) (h .signature) in
-    record { inside = w .0; nine = rw g at (words-length t 8 9); reserved = fourAt t; is = rw (g, none, append-nil) at r }
+    record { inside = w .0; count-is = rw g at (words-length t 8 9); reserved = fourAt t; is = rw (g, none, append-nil) at r }
 
 -- ---- `dtim`
 

@@ -13,7 +13,7 @@ use Rattle.fields.specs.declared.Kind.the-variants.{Sf32}
 use Rattle.fields.proofs.Choice.{each}
 use Rattle.small_meaning.specs.Answer.{Answer, value}
 use Rattle.small_meaning.specs.Layout.{nineNumbers, measurement, firstXyz}
-use Rattle.small_meaning.specs.Small.{matrixOf, chadOf, windowOf, tripleOf}
+use Rattle.small_meaning.specs.Small.{chadMatrixOf, chadOf, windowOf, tripleOf}
 use Rattle.small_meaning.proofs.Order.{no-absence, no-refusal}
 
 pub fields-are : {xs ws : List ℕ} → value xs ≡ value ws → xs ≡ ws
@@ -25,8 +25,8 @@ pub record Nine (t ws : List ℕ) : Type 0 where
   pub filled : length t ≡ 44
   pub given : nineNumbers t ≡ ws
 
-pub matrix-behind : (t ws : List ℕ) → matrixOf t ≡ value ws → Nine t ws
-unfolding matrixOf
+pub matrix-behind : (t ws : List ℕ) → chadMatrixOf t ≡ value ws → Nine t ws
+unfolding chadMatrixOf
 matrix-behind t ws =
     let P : Answer → Type 0 = λ a. a ≡ value ws → Nine t ws in
     each P (eqb (u32At t 0) (signatureOf Sf32)) _ _

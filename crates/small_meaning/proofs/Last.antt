@@ -13,9 +13,11 @@ use Rattle.fields.specs.Tag.{signatureOf}
 use Rattle.fields.specs.declared.Kind.the-variants.{Sf32}
 use Rattle.fields.proofs.Choice.{each}
 use Rattle.small_meaning.specs.Answer.{Answer, value, default, absent, refused}
+use Rattle.small_meaning.specs.Layout.{nineNumbers}
 use Rattle.small_meaning.specs.Order.{answerTo}
-use Rattle.small_meaning.specs.Small.{matrixOf, chadOf, sigOf, dateOf, windowOf, measOf, viewOf, tripleOf, xyzOf, cicpOf}
+use Rattle.small_meaning.specs.Small.{chadMatrixOf, chadOf, sigOf, dateOf, windowOf, measOf, viewOf, tripleOf, xyzOf, cicpOf}
 use Rattle.small_meaning.specs.declared.Found.{Found}
+use Rattle.small_meaning.proofs.Order.{order-each}
 
 abbrev pub Not14 : Answer → Type 0
 Not14 a = a ≡ refused 14 → ⊥
@@ -29,45 +31,45 @@ none h = never cc
 standard : Not14 default
 standard h = never cc
 
-other : (n : ℕ) → (n ≡ 14 → ⊥) → Not14 (refused n)
-other n f h = f cc
+other : {n : ℕ} → (n ≡ 14 → ⊥) → Not14 (refused n)
+other f h = f cc
 
 -- the order that the readers share
-ordered : (f : Found) {a b c : Answer} → Not14 a → Not14 b → Not14 c → Not14 (answerTo f a b c)
-unfolding answerTo
-ordered Found.Short x y z = x
-ordered Found.Past x y z = other _ (λ e. omega arith)
-ordered Found.Other x y z = y
-ordered (Found.Tag from to) x y z = z
+ordered : (f : Found) {short past this : Answer} → Not14 short → Not14 past → Not14 this → Not14 (answerTo f short past this)
+ordered f a b c = order-each Not14 f a (other (λ e. omega arith)) b c
+
+-- `chad`: what holds of every answer that it can give holds of the one that it gives
+pub chad-each : (P : Answer → Type 0) → P (refused 1) → P (refused 17) → P absent → ((t : List ℕ) → P (value (nineNumbers t))) → (p : List ℕ) (entry size : ℕ) → P (chadOf p entry size)
+unfolding chadOf chadMatrixOf
+chad-each P past bad none is p entry size =
+    each P (ltb (length p) (entry + size)) _ _ (λ _. past)
+    (λ _. each P (ltb (length p) (entry + 8)) _ _ (λ _. past)
+    (λ _. each P (ltb size 8) _ _ (λ _. none)
+    (λ _. each P (eqb ((size - 8) / 4) 9) _ _
+    (λ _. each P (eqb (u32At (tagAt p entry size) 0) (signatureOf Sf32)) _ _
+    (λ _. each P (eqb (length (tagAt p entry size)) 44) _ _ (λ _. is _) (λ _. bad)) (λ _. bad))
+    (λ _. none))))
 
 module _ (p : List ℕ) (entry size : ℕ) where
   pub chad-not-14 : Not14 (chadOf p entry size)
-  unfolding chadOf matrixOf
-  chad-not-14 =
-      each Not14 (ltb (length p) (entry + size)) _ _ (λ _. other _ (λ e. omega arith))
-      (λ _. each Not14 (ltb (length p) (entry + 8)) _ _ (λ _. other _ (λ e. omega arith))
-      (λ _. each Not14 (ltb size 8) _ _ (λ _. none)
-      (λ _. each Not14 (eqb ((size - 8) / 4) 9) _ _
-      (λ _. each Not14 (eqb (u32At (tagAt p entry size) 0) (signatureOf Sf32)) _ _
-      (λ _. each Not14 (eqb (length (tagAt p entry size)) 44) _ _ (λ _. valued) (λ _. other _ (λ e. omega arith))) (λ _. other _ (λ e. omega arith)))
-      (λ _. none))))
+  chad-not-14 = chad-each Not14 (other (λ e. omega arith)) (other (λ e. omega arith)) none (λ t. valued) p entry size
 
   pub sig-not-14 : Not14 (sigOf p entry size)
-  sig-not-14 = ordered _ (other _ (λ e. omega arith)) none valued
+  sig-not-14 = ordered _ (other (λ e. omega arith)) none valued
 
   pub date-not-14 : Not14 (dateOf p entry size)
   date-not-14 = ordered _ none none valued
 
   pub meas-not-14 : Not14 (measOf p entry size)
   unfolding windowOf
-  meas-not-14 = ordered _ none none (each Not14 (ltb (length p) (entry + 36)) _ _ (λ _. other _ (λ e. omega arith)) (λ _. valued))
+  meas-not-14 = ordered _ none none (each Not14 (ltb (length p) (entry + 36)) _ _ (λ _. other (λ e. omega arith)) (λ _. valued))
 
   pub view-not-14 : Not14 (viewOf p entry size)
   view-not-14 = ordered _ none none valued
 
   pub xyz-not-14 : Not14 (xyzOf p entry size)
   unfolding tripleOf
-  xyz-not-14 = ordered _ standard standard (each Not14 (ltb (length (tagAt p entry size)) 20) _ _ (λ _. other _ (λ e. omega arith)) (λ _. valued))
+  xyz-not-14 = ordered _ standard standard (each Not14 (ltb (length (tagAt p entry size)) 20) _ _ (λ _. other (λ e. omega arith)) (λ _. valued))
 
   pub cicp-not-14 : Not14 (cicpOf p entry size)
   cicp-not-14 = ordered _ none none valued

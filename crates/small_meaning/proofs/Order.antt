@@ -106,6 +106,14 @@ pub answer-fields : (fields : List ℕ → List ℕ) (short other : Answer) (lea
 answer-fields fields short other least end signature p entry size f from to ws h e w =
     answer-tag (λ (t : List ℕ). value (fields t)) short other least end signature p entry size f from to (value ws) h e (ap value w)
 
+-- what holds of every answer that a reader can give holds of the one that it gives
+pub order-each : (P : Answer → Type 0) (f : Found) {short other this : Answer} → P short → P (refused 1) → P other → P this → P (answerTo f short other this)
+unfolding answerTo
+order-each P Found.Short a b c d = a
+order-each P Found.Past a b c d = b
+order-each P Found.Other a b c d = c
+order-each P (Found.Tag from to) a b c d = d
+
 -- ---- what stands behind a value
 
 -- an answer that is no value

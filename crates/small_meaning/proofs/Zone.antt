@@ -19,42 +19,42 @@ use Rattle.small_meaning.proofs.Laid.{chad-behind, window-behind, tripl
 use Rattle.small_meaning.proofs.Order.{Silent, no-absence, no-default, no-refusal, met, reaches}
 
 -- what the first `end` bytes tell, whatever stands behind them
-abbrev pub Told : {A : Type 0} → ℕ → (List ℕ → A) → Type 0
-Told end tells = (t q : List ℕ) → end ≤ length t → tells (t ++ q) ≡ tells t
+abbrev pub FirstBytesTell : {A : Type 0} → ℕ → (List ℕ → A) → Type 0
+FirstBytesTell end tells = (t q : List ℕ) → end ≤ length t → tells (t ++ q) ≡ tells t
 
 -- so the fields of t are those of its first bytes, by `front`
-pub nine-told : Told 44 nineNumbers
+pub nine-told : FirstBytesTell 44 nineNumbers
 unfolding nineNumbers
 nine-told t q h = words-append t q _ _ (omega arith)
 
-pub signature-told : Told 12 signatureIn
+pub signature-told : FirstBytesTell 12 signatureIn
 unfolding signatureIn
 signature-told t q h = rw (u32-append t q 8 h)
 
-pub date-told : Told 20 dateBytes
+pub date-told : FirstBytesTell 20 dateBytes
 unfolding dateBytes
 date-told t q h = bytes-append t q _ _ (omega arith)
 
-pub measurement-told : Told 36 measurement
+pub measurement-told : FirstBytesTell 36 measurement
 unfolding measurement
 measurement-told t q h = words-append t q _ _ (omega arith)
 
-pub conditions-told : Told 36 conditions
+pub conditions-told : FirstBytesTell 36 conditions
 unfolding conditions
 conditions-told t q h = words-append t q _ _ (omega arith)
 
-pub xyz-told : Told 20 firstXyz
+pub xyz-told : FirstBytesTell 20 firstXyz
 unfolding firstXyz
 xyz-told t q h = words-append t q _ _ (omega arith)
 
-pub codes-told : Told 12 codePoints
+pub codes-told : FirstBytesTell 12 codePoints
 unfolding codePoints
 codes-told t q h = bytes-append t q _ _ (omega arith)
 
-type-told : Told 4 (λ t. u32At t 0)
+type-told : FirstBytesTell 4 (λ t. u32At t 0)
 type-told t q h = u32-append t q 0 h
 
-triple-told : Told 20 tripleOf
+triple-told : FirstBytesTell 20 tripleOf
 unfolding tripleOf
 triple-told t q h =
     let m : 20 ≤ length (t ++ q) = simp length-append (omega arith) in
@@ -62,7 +62,7 @@ triple-told t q h =
 
 module _ (p q : List ℕ) (entry size : ℕ) (no-shorter : length p ≤ length q) where
   -- what is told by bytes that both profiles have is the same
-  kept : {A : Type 0} (tells : List ℕ → A) (end n : ℕ) → Told end tells → end ≤ n → entry + n ≤ length p → tagAt q entry end ≡ tagAt p entry end → tells (tagAt q entry n) ≡ tells (tagAt p entry n)
+  kept : {A : Type 0} (tells : List ℕ → A) (end n : ℕ) → FirstBytesTell end tells → end ≤ n → entry + n ≤ length p → tagAt q entry end ≡ tagAt p entry end → tells (tagAt q entry n) ≡ tells (tagAt p entry n)
   kept tells end n h l fits e =
       let long : end ≤ length (tagAt p entry n) = omega (arith, length-take n (drop entry p), length-drop entry p) in
       let long′ : end ≤ length (tagAt q entry n) = omega (arith, length-take n (drop entry q), length-drop entry q) in

@@ -22,52 +22,52 @@ abbrev pub profileOf : ℕ → ℕ → ℕ → ℕ → List ℕ → List ℕ
 profileOf a b c d rest = 0xF0 ∷ 0xF1 ∷ 0xF2 ∷ 0xF3 ∷ a ∷ b ∷ c ∷ d ∷ 0xE0 ∷ 0xE1 ∷ 0xE2 ∷ 0xE3 ∷ rest
 
 -- the bytes 1 to 4, to 12, to 28 and to 36
-abbrev pub four : List ℕ
-four = 1 ∷ 2 ∷ 3 ∷ 4 ∷ []
+abbrev pub bytesTo4 : List ℕ
+bytesTo4 = 1 ∷ 2 ∷ 3 ∷ 4 ∷ []
 
-abbrev pub twelve : List ℕ
-twelve = four ++ (5 ∷ 6 ∷ 7 ∷ 8 ∷ 9 ∷ 10 ∷ 11 ∷ 12 ∷ [])
+abbrev pub bytesTo12 : List ℕ
+bytesTo12 = bytesTo4 ++ (5 ∷ 6 ∷ 7 ∷ 8 ∷ 9 ∷ 10 ∷ 11 ∷ 12 ∷ [])
 
-abbrev pub manyBytes : List ℕ
-manyBytes = twelve ++ (13 ∷ 14 ∷ 15 ∷ 16 ∷ 17 ∷ 18 ∷ 19 ∷ 20 ∷ 21 ∷ 22 ∷ 23 ∷ 24 ∷ 25 ∷ 26 ∷ 27 ∷ 28 ∷ [])
+abbrev pub bytesTo28 : List ℕ
+bytesTo28 = bytesTo12 ++ (13 ∷ 14 ∷ 15 ∷ 16 ∷ 17 ∷ 18 ∷ 19 ∷ 20 ∷ 21 ∷ 22 ∷ 23 ∷ 24 ∷ 25 ∷ 26 ∷ 27 ∷ 28 ∷ [])
 
-abbrev pub mostBytes : List ℕ
-mostBytes = manyBytes ++ (29 ∷ 30 ∷ 31 ∷ 32 ∷ 33 ∷ 34 ∷ 35 ∷ 36 ∷ [])
+abbrev pub bytesTo36 : List ℕ
+bytesTo36 = bytesTo28 ++ (29 ∷ 30 ∷ 31 ∷ 32 ∷ 33 ∷ 34 ∷ 35 ∷ 36 ∷ [])
 
 -- the numbers of 28 and of 36 of them
-abbrev pub seven : List ℕ
-seven = 0x01020304 ∷ 0x05060708 ∷ 0x090A0B0C ∷ 0x0D0E0F10 ∷ 0x11121314 ∷ 0x15161718 ∷ 0x191A1B1C ∷ []
+abbrev pub sevenWords : List ℕ
+sevenWords = 0x01020304 ∷ 0x05060708 ∷ 0x090A0B0C ∷ 0x0D0E0F10 ∷ 0x11121314 ∷ 0x15161718 ∷ 0x191A1B1C ∷ []
 
-abbrev pub nine : List ℕ
-nine = seven ++ (0x1D1E1F20 ∷ 0x21222324 ∷ [])
+abbrev pub nineWords : List ℕ
+nineWords = sevenWords ++ (0x1D1E1F20 ∷ 0x21222324 ∷ [])
 
 -- a profile of each type with its tag at 4; the first has 4 bytes behind the tag
 abbrev pub chad : List ℕ
-chad = profileOf 0x73 0x66 0x33 0x32 (mostBytes ++ four)
+chad = profileOf 0x73 0x66 0x33 0x32 (bytesTo36 ++ bytesTo4)
 
 abbrev pub sig : List ℕ
-sig = profileOf 0x73 0x69 0x67 0x20 four
+sig = profileOf 0x73 0x69 0x67 0x20 bytesTo4
 
 abbrev pub dtim : List ℕ
-dtim = profileOf 0x64 0x74 0x69 0x6d twelve
+dtim = profileOf 0x64 0x74 0x69 0x6d bytesTo12
 
 abbrev pub meas : List ℕ
-meas = profileOf 0x6d 0x65 0x61 0x73 manyBytes
+meas = profileOf 0x6d 0x65 0x61 0x73 bytesTo28
 
 abbrev pub view : List ℕ
-view = profileOf 0x76 0x69 0x65 0x77 manyBytes
+view = profileOf 0x76 0x69 0x65 0x77 bytesTo28
 
 abbrev pub xyz : List ℕ
-xyz = profileOf 0x58 0x59 0x5a 0x20 twelve
+xyz = profileOf 0x58 0x59 0x5a 0x20 bytesTo12
 
 abbrev pub cicp : List ℕ
-cicp = profileOf 0x63 0x69 0x63 0x70 four
+cicp = profileOf 0x63 0x69 0x63 0x70 bytesTo4
 
 -- at 3 stands a tag of another type
 abbrev pub cases : List Case
 cases =
     -- `chad`: only 44 bytes are a value
-    gives chadOf chad 4 44 (value nine) ∷
+    gives chadOf chad 4 44 (value nineWords) ∷
     gives chadOf chad 4 43 absent ∷
     gives chadOf chad 4 45 (refused 17) ∷
     gives chadOf chad 4 46 (refused 17) ∷
@@ -89,15 +89,15 @@ cases =
     gives dateOf dtim 4 21 (refused 1) ∷
     gives dateOf dtim 3 20 absent ∷
     -- `meas`: from 12 bytes on 36 are read
-    gives measOf meas 4 36 (value seven) ∷
-    gives measOf meas 4 12 (value seven) ∷
+    gives measOf meas 4 36 (value sevenWords) ∷
+    gives measOf meas 4 12 (value sevenWords) ∷
     gives measOf meas 4 11 absent ∷
     gives measOf meas 4 37 (refused 1) ∷
     gives measOf (take 39 meas) 4 12 (refused 1) ∷
     gives measOf meas 3 36 absent ∷
     -- `view`: the declared end is not looked at
-    gives viewOf view 4 36 (value seven) ∷
-    gives viewOf view 4 0xFFFFFFFF (value seven) ∷
+    gives viewOf view 4 36 (value sevenWords) ∷
+    gives viewOf view 4 0xFFFFFFFF (value sevenWords) ∷
     gives viewOf view 4 35 absent ∷
     gives viewOf (take 39 view) 4 36 (refused 1) ∷
     gives viewOf view 3 36 absent ∷
@@ -109,7 +109,7 @@ cases =
     gives xyzOf xyz 4 19 (refused 2) ∷
     gives xyzOf xyz 4 21 (refused 1) ∷
     -- `cicp`
-    gives cicpOf cicp 4 12 (value four) ∷
+    gives cicpOf cicp 4 12 (value bytesTo4) ∷
     gives cicpOf cicp 4 11 absent ∷
     gives cicpOf cicp 4 13 (refused 1) ∷
     gives cicpOf cicp 3 12 absent ∷

@@ -14,8 +14,8 @@ use Rattle.small_meaning.specs.Layout.{nineNumbers, signatureIn, dateByt
 use Rattle.small_meaning.specs.Order.{foundOf, answerTo}
 
 -- `chad`, of a tag that has room for nine numbers and not for ten
-unfoldable pub matrixOf : List ℕ → Answer
-matrixOf t =
+unfoldable pub chadMatrixOf : List ℕ → Answer
+chadMatrixOf t =
     cond (eqb (u32At t 0) (signatureOf Sf32)) (
     cond (eqb (length t) 44) (value (nineNumbers t)) (refused 17)) (
     refused 17)
@@ -25,7 +25,7 @@ chadOf profile entry size =
     cond (ltb (length profile) (entry + size)) (refused 1) (
     cond (ltb (length profile) (entry + 8)) (refused 1) (
     cond (ltb size 8) absent (
-    cond (eqb ((size - 8) / 4) 9) (matrixOf (tagAt profile entry size)) absent)))
+    cond (eqb ((size - 8) / 4) 9) (chadMatrixOf (tagAt profile entry size)) absent)))
 
 -- `sig `
 abbrev pub sigOf : List ℕ → ℕ → ℕ → Answer

@@ -36,7 +36,7 @@ cicpTold c = c .primaries ∷ c .transfer ∷ c .matrix ∷ c .range ∷ []
 
 module _ {A : Type 0} (element : ℕ → A → List ℕ) (told : A → List ℕ) where
   -- the tag of a profile begins with an element that is answered so
-  pub record Begins (p : List ℕ) (entry size : ℕ) (ws : List ℕ) : Type 0 where
+  pub record BeginsElement (p : List ℕ) (entry size : ℕ) (ws : List ℕ) : Type 0 where
     pub inside : entry + size ≤ length p
     pub reserved : ℕ
     pub said : A
@@ -53,12 +53,12 @@ module _ {A : Type 0} (reader : List ℕ → ℕ → ℕ → Answer) (element : 
   -- and what is answered with a value is a tag that begins so
   abbrev pub ReadWritten : (List ℕ → ℕ → ℕ → Type 0) → Type 0
   ReadWritten Asked =
-      (p : List ℕ) (entry size : ℕ) (ws : List ℕ) → Bytes p → Asked p entry size → reader p entry size ≡ value ws → Begins element told p entry size ws
+      (p : List ℕ) (entry size : ℕ) (ws : List ℕ) → Bytes p → Asked p entry size → reader p entry size ≡ value ws → BeginsElement element told p entry size ws
 
 -- `chad`: the tag is nine numbers of s15Fixed16ArrayType and nothing else
 pub record BeginsNine (p : List ℕ) (entry size : ℕ) (ws : List ℕ) : Type 0 where
   pub inside : entry + size ≤ length p
-  pub nine : length ws ≡ 9
+  pub count-is : length ws ≡ 9
   pub reserved : ℕ
   pub is : take size (drop entry p) ≡ s15Fixed16ArrayType reserved ws
 

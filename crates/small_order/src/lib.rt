@@ -6,6 +6,9 @@ use small_meaning::Found;
 ghost use mathlib.Core.Path.{_≡_};
 ghost use Rattle.small_meaning.specs.Order.{foundOf};
 
+// Every tag begins with its signature.
+const SIGNATURE: u64 = 0;
+
 // The first `end` bytes of a tag of `size` bytes. A size under `least` is too short; then the bytes may lie past the profile; then the
 // type may be another than `signature`.
 pub fn find(profile: &[u8], entry: Entry, size: u32, least: u32, end: u32, signature: u32) -> Found
@@ -18,7 +21,7 @@ pub fn find(profile: &[u8], entry: Entry, size: u32, least: u32, end: u32, signa
     let Place::In { from, to } = place else {
         return Found::Past;
     };
-    if fields::u32_at(&profile[from..to], InTag(0)) == signature {
+    if fields::u32_at(&profile[from..to], InTag(SIGNATURE)) == signature {
         Found::Tag { from, to }
     } else {
         Found::Other

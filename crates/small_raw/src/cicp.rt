@@ -19,14 +19,29 @@ pub fn full_range(code: CicpCodes) -> bool
     code.range == 1
 }
 
+// cicpType, 'cicp'
+//  0 to  3  signature
+//  4 to  7  reserved
+//  8        colour primaries
+//  9        transfer characteristics
+// 10        matrix coefficients
+// 11        video full range flag
+const PRIMARIES: u64 = 8;
+
+const TRANSFER: u64 = 9;
+
+const MATRIX: u64 = 10;
+
+const RANGE: u64 = 11;
+
 fn codes_at(tag: &[u8]) -> CicpCodes
     ensures { λ r. ⌜ codeNumbers r ≡ codePoints (now (tag .entry)) ⌝ }
 {
     CicpCodes {
-        primaries: fields::u8_at(tag, InTag(8)),
-        transfer: fields::u8_at(tag, InTag(9)),
-        matrix: fields::u8_at(tag, InTag(10)),
-        range: fields::u8_at(tag, InTag(11)),
+        primaries: fields::u8_at(tag, InTag(PRIMARIES)),
+        transfer: fields::u8_at(tag, InTag(TRANSFER)),
+        matrix: fields::u8_at(tag, InTag(MATRIX)),
+        range: fields::u8_at(tag, InTag(RANGE)),
     }
 }
 

@@ -11,6 +11,12 @@ ghost use Rattle.small_meaning.specs.Answer.{dateNumbers, dateInNumbers};
 ghost use Rattle.small_meaning.specs.Layout.{dateBytes};
 ghost use Rattle.small_meaning.specs.Small.{dateOf};
 
+// dateTimeType, 'dtim'
+//  0 to  3  signature
+//  4 to  7  reserved
+//  8 to 19  the date and time, six numbers of 2 bytes each
+const END: u32 = 20;
+
 fn bytes_at(tag: &[u8]) -> DateBytes
     ensures { λ r. ⌜ dateNumbers r ≡ dateBytes (now (tag .entry)) ⌝ }
 {
@@ -34,11 +40,11 @@ fn bytes_at(tag: &[u8]) -> DateBytes
 pub fn read_date_time_tag(profile: &[u8], entry: Entry, size: u32) -> DateAnswer
     ensures { λ r. ⌜ dateInNumbers r ≡ dateOf (now (profile .entry)) (entry .0) size ⌝ }
 {
-    let found = small_order::find(profile, entry, size, 20, size, Kind::DTIM);
+    let found = small_order::find(profile, entry, size, END, size, Kind::DTIM);
     match found {
         Found::Short => DateAnswer::Absent,
         Found::Past => DateAnswer::Refused(Refusal::PastProfile),
         Found::Other => DateAnswer::Absent,
-        Found::Tag { from: _, to: _ } => DateAnswer::Value(bytes_at(&profile[..20])),
+        Found::Tag { from: _, to: _ } => DateAnswer::Value(bytes_at(&profile[..END as usize])),
     }
 }

@@ -1,4 +1,5 @@
 // `meas`: read_meas_tag of moxcms.
+use crate::xyz;
 use fields::Entry;
 use fields::InTag;
 use fields::Kind;
@@ -8,24 +9,39 @@ use fields::TAG_SIZE;
 use small_meaning::Found;
 use small_meaning::MeasAnswer;
 use small_meaning::Measurement;
-use small_meaning::XyzNumber;
 ghost use mathlib.Core.Path.{_≡_};
 ghost use Rattle.small_meaning.specs.Answer.{measurementNumbers, measInNumbers};
 ghost use Rattle.small_meaning.specs.Layout.{measurement};
 ghost use Rattle.small_meaning.specs.Small.{windowOf, measOf};
 
+// measurementType, 'meas'
+//  0 to  3  signature
+//  4 to  7  reserved
+//  8 to 11  standard observer
+// 12 to 23  backing, an XYZNumber
+// 24 to 27  geometry
+// 28 to 31  flare
+// 32 to 35  standard illuminant
+const OBSERVER: u64 = 8;
+
+const BACKING: u32 = 12;
+
+const GEOMETRY: u64 = 24;
+
+const FLARE: u64 = 28;
+
+const ILLUMINANT: u64 = 32;
+
+const END: u64 = 36;
+
 fn measurement_at(bytes: &[u8]) -> Measurement
     ensures { λ r. ⌜ measurementNumbers r ≡ measurement (now (bytes .entry)) ⌝ }
 {
-    let observer = fields::u32_at(bytes, InTag(8));
-    let backing = XyzNumber {
-        x: fields::u32_at(bytes, InTag(12)),
-        y: fields::u32_at(bytes, InTag(16)),
-        z: fields::u32_at(bytes, InTag(20)),
-    };
-    let geometry = fields::u32_at(bytes, InTag(24));
-    let flare = fields::u32_at(bytes, InTag(28));
-    let illuminant = fields::u32_at(bytes, InTag(32));
+    let observer = fields::u32_at(bytes, InTag(OBSERVER));
+    let backing = xyz::xyz_at(bytes, BACKING);
+    let geometry = fields::u32_at(bytes, InTag(GEOMETRY));
+    let flare = fields::u32_at(bytes, InTag(FLARE));
+    let illuminant = fields::u32_at(bytes, InTag(ILLUMINANT));
     Measurement {
         observer,
         backing,
@@ -35,11 +51,11 @@ fn measurement_at(bytes: &[u8]) -> Measurement
     }
 }
 
-// The 36 bytes of a measurement, wherever the tag ends.
+// The bytes of a measurement, wherever the tag ends.
 fn read_bytes(profile: &[u8], entry: Entry) -> MeasAnswer
     ensures { λ r. ⌜ measInNumbers r ≡ windowOf (now (profile .entry)) (entry .0) ⌝ }
 {
-    let place = fields::locate(profile, entry, InTag(36));
+    let place = fields::locate(profile, entry, InTag(END));
     let Place::In { from, to } = place else {
         return MeasAnswer::Refused(Refusal::PastProfile);
     };

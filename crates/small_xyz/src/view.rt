@@ -1,4 +1,5 @@
 // `view`: read_viewing_conditions of moxcms.
+use crate::xyz;
 use fields::Entry;
 use fields::InTag;
 use fields::Kind;
@@ -6,26 +7,31 @@ use fields::Refusal;
 use small_meaning::Found;
 use small_meaning::ViewAnswer;
 use small_meaning::ViewingConditions;
-use small_meaning::XyzNumber;
 ghost use mathlib.Core.Path.{_≡_};
 ghost use Rattle.small_meaning.specs.Answer.{viewingNumbers, viewInNumbers};
 ghost use Rattle.small_meaning.specs.Layout.{conditions};
 ghost use Rattle.small_meaning.specs.Small.{viewOf};
 
+// viewingConditionsType, 'view'
+//  0 to  3  signature
+//  4 to  7  reserved
+//  8 to 19  illuminant, an XYZNumber
+// 20 to 31  surround, an XYZNumber
+// 32 to 35  illuminant type
+const ILLUMINANT: u32 = 8;
+
+const SURROUND: u32 = 20;
+
+const ILLUMINANT_TYPE: u64 = 32;
+
+const END: u32 = 36;
+
 fn conditions_at(bytes: &[u8]) -> ViewingConditions
     ensures { λ r. ⌜ viewingNumbers r ≡ conditions (now (bytes .entry)) ⌝ }
 {
-    let illuminant = XyzNumber {
-        x: fields::u32_at(bytes, InTag(8)),
-        y: fields::u32_at(bytes, InTag(12)),
-        z: fields::u32_at(bytes, InTag(16)),
-    };
-    let surround = XyzNumber {
-        x: fields::u32_at(bytes, InTag(20)),
-        y: fields::u32_at(bytes, InTag(24)),
-        z: fields::u32_at(bytes, InTag(28)),
-    };
-    let number = fields::u32_at(bytes, InTag(32));
+    let illuminant = xyz::xyz_at(bytes, ILLUMINANT);
+    let surround = xyz::xyz_at(bytes, SURROUND);
+    let number = fields::u32_at(bytes, InTag(ILLUMINANT_TYPE));
     ViewingConditions {
         illuminant,
         surround,
@@ -33,11 +39,11 @@ fn conditions_at(bytes: &[u8]) -> ViewingConditions
     }
 }
 
-// The viewing conditions whose tag stands at `entry`. Its first 36 bytes are read; where `size` says that it ends is not looked at.
+// The viewing conditions whose tag stands at `entry`. Its first bytes up to END are read; where `size` says that it ends is not looked at.
 pub fn read_viewing_conditions(profile: &[u8], entry: Entry, size: u32) -> ViewAnswer
     ensures { λ r. ⌜ viewInNumbers r ≡ viewOf (now (profile .entry)) (entry .0) size ⌝ }
 {
-    let found = small_order::find(profile, entry, size, 36, 36, Kind::VIEW);
+    let found = small_order::find(profile, entry, size, END, END, Kind::VIEW);
     match found {
         Found::Short => ViewAnswer::Absent,
         Found::Past => ViewAnswer::Refused(Refusal::PastProfile),

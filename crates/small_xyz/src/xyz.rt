@@ -12,8 +12,16 @@ ghost use Rattle.fields.specs.Bytes.{wordsAt};
 ghost use Rattle.small_meaning.specs.Answer.{xyzNumbers, xyzInNumbers};
 ghost use Rattle.small_meaning.specs.Small.{tripleOf, xyzOf};
 
+// XYZType, 'XYZ '
+//  0 to  3  signature
+//  4 to  7  reserved
+//  8 on     XYZNumbers, 12 bytes each, of which the first is read
+const FIRST: u32 = 8;
+
+const FIRST_END: usize = 20;
+
 // The three numbers from `at` on.
-fn xyz_at(tag: &[u8], at: u32) -> XyzNumber
+pub(crate) fn xyz_at(tag: &[u8], at: u32) -> XyzNumber
     ensures { λ r. ⌜ xyzNumbers r ≡ wordsAt (now (tag .entry)) at 3 ⌝ }
 {
     XyzNumber {
@@ -27,10 +35,10 @@ fn xyz_at(tag: &[u8], at: u32) -> XyzNumber
 fn read_triple(tag: &[u8]) -> XyzAnswer
     ensures { λ r. ⌜ xyzInNumbers r ≡ tripleOf (now (tag .entry)) ⌝ }
 {
-    if tag.len() < 20 {
+    if tag.len() < FIRST_END {
         return XyzAnswer::Refused(Refusal::TagTooShort);
     }
-    XyzAnswer::Value(xyz_at(tag, 8))
+    XyzAnswer::Value(xyz_at(tag, FIRST))
 }
 
 // The first XYZNumber of the tag at `entry`, of `size` bytes.

@@ -2,7 +2,6 @@
 -- is answered, and what is left of the slots.
 -- Assumes nothing.
 use Prim.Native.Nat.{ℕ, _+_, _-_, _*_, _≤_, _<_}
-use native.Mathlib.Omega.{arith}
 use mathlib.Core.Path.{_≡_, refl}
 use mathlib.Core.List.{List, [], _∷_}
 use lib.Dec.{ltb}
@@ -12,7 +11,7 @@ use denote.Enum.Declared.{tagOf as placeIn}
 use borrow.Author.Tests.{eq-eqb, ne-eqb, lt-ltb, le-ltb}
 use Rattle.fields.proofs.Never.{never}
 use Rattle.fields.specs.Bytes.{u32At}
-use Rattle.fields.specs.Place.{placeOf, countedSize}
+use Rattle.fields.specs.Place.{placeOf, countedSize, countedTag}
 use Rattle.fields.specs.Tag.{signatureOf, kindOf}
 use Rattle.fields.specs.declared.Kind.{Kind}
 use Rattle.fields.specs.declared.Kind.the-variants.{Text, Desc, Mluc}
@@ -21,12 +20,12 @@ use Rattle.fields.specs.declared.Place.the-variants.{In, Past}
 use Rattle.fields.specs.declared.Refusal.{Refusal}
 use Rattle.fields.proofs.Choice.{each}
 use Rattle.fields.proofs.Kind as kinds
-use Rattle.fields.proofs.Located.{inside, past, part-is}
+use Rattle.fields.proofs.Located.{inside, past, counted-part}
 use Rattle.fields.proofs.Signatures.{arm, unlike, others}
 use Rattle.text_meaning.specs.Answer.{Answer, text, desc, absent, refused, span, spanFrom, unicodeFrom, inNumbers, slotsWith}
 use Rattle.text_meaning.specs.Cut.{byteOf, unitOf, keptOf}
 use Rattle.text_meaning.specs.Layout.{asciiEnd}
-use Rattle.text_meaning.specs.Text.{AnswerAndSlots, textOf, unicodeOf, descOf, mlucOf, byType, tagOf, stringOf}
+use Rattle.text_meaning.specs.Text.{AnswerAndSlots, textOf, unicodeOf, descOf, mlucOf, byType, stringOf}
 use Rattle.text_meaning.specs.declared.Description.{Description}
 use Rattle.text_meaning.specs.declared.TextAnswer.{TextAnswer}
 use Rattle.text_meaning.proofs.Shared.{leaving, same, as-text, as-mluc, as-desc}
@@ -106,25 +105,25 @@ pub ruleset kind-laws = (kind-text, kind-mluc, kind-desc, kind-other)
 -- ---- the tag in its profile
 
 module _ (p s : List ℕ) (entry size end : ℕ) (n : end ≡ countedSize size) where
-  pub string-small : end < 4 → AnswerAndSlots (tagOf p entry size) (stringOf p entry size (length s)) TextAnswer.Absent s s
+  pub string-small : end < 4 → AnswerAndSlots (countedTag p entry size) (stringOf p entry size (length s)) TextAnswer.Absent s s
   unfolding stringOf
   string-small l = leaving _ s _ _ absent (λ ws. refl) (rw (← n, lt-ltb _ _ l)) refl
 
   module _ (l : 4 ≤ end) (place : Place) (h : place ≡ placeOf (length p) entry end) where
-    pub string-past : place ≡ Past → AnswerAndSlots (tagOf p entry size) (stringOf p entry size (length s)) (TextAnswer.Refused Refusal.PastProfile) s s
+    pub string-past : place ≡ Past → AnswerAndSlots (countedTag p entry size) (stringOf p entry size (length s)) (TextAnswer.Refused Refusal.PastProfile) s s
     unfolding stringOf
     string-past e = leaving _ s _ _ (refused 1) (λ ws. refl) (rw (← n, le-ltb _ _ l, lt-ltb _ _ (past _ _ _ h e))) refl
 
     module _ (from to : ℕ) (e : place ≡ In from to) where
-      pub string-short : end < 8 → AnswerAndSlots (tagOf p entry size) (stringOf p entry size (length s)) TextAnswer.Absent s s
+      pub string-short : end < 8 → AnswerAndSlots (countedTag p entry size) (stringOf p entry size (length s)) TextAnswer.Absent s s
       unfolding stringOf
       string-short m = let i = inside _ _ _ h e in leaving _ s _ _ absent (λ ws. refl) (rw (← n, le-ltb _ _ l, le-ltb _ _ (i .fits), lt-ltb _ _ m)) refl
 
-      pub string-kind : (r : TextAnswer) (s' : List ℕ) → 8 ≤ end → AnswerAndSlots (take (to - from) (drop from p)) (byType (take (to - from) (drop from p)) (length s)) r s s' → AnswerAndSlots (tagOf p entry size) (stringOf p entry size (length s)) r s s'
+      pub string-kind : (r : TextAnswer) (s' : List ℕ) → 8 ≤ end → AnswerAndSlots (take (to - from) (drop from p)) (byType (take (to - from) (drop from p)) (length s)) r s s' → AnswerAndSlots (countedTag p entry size) (stringOf p entry size (length s)) r s s'
       unfolding stringOf
       string-kind r s' m g =
           let i = inside _ _ _ h e in
-          let same-tag : take (to - from) (drop from p) ≡ tagOf p entry size = rw (i .from-is, i .to-is, part-is p entry end, n) in
+          let same-tag = counted-part _ _ _ h e p size n in
           same _ s r _ _ s' (rw (← n, le-ltb _ _ l, le-ltb _ _ (i .fits), le-ltb _ _ m, n)) (rw same-tag at g)
 
 pub ruleset string-laws = (string-small, string-past, string-short, string-kind)

@@ -23,8 +23,8 @@ use Rattle.fields.specs.Tag.{signatureOf}
 use Rattle.text_meaning.specs.Answer.{Answer, text, desc, mluc, Span, span, Unicode, slotsWith}
 use Rattle.text_meaning.specs.Cut.{byteOf, unitOf}
 use Rattle.text_meaning.specs.Layout.{unicodeLanguage, unicodeCount, unicodeStart}
-use Rattle.text_meaning.specs.Mluc.{Localized as Placed, RecordsRead, whole, even, recordsAsked, recordsIn, recordWords, wordsIn}
-use Rattle.text_meaning.specs.Standard.{TagInside, tagIn, NoZeroLast, BeginsText, unicodeTold, descriptionTold, CutShort, no-count, no-units, UnicodeTaken, none, some, short, BeginsDescription, Fits, Asked, localizedTold, StringTaken, StringsTaken, BeginsLocalized, ReadLocalized}
+use Rattle.text_meaning.specs.Mluc.{RecordsRead, whole, even, recordsAsked, recordsIn, textRecordWords, wordsIn, PlacedString}
+use Rattle.text_meaning.specs.Standard.{TextTagInside, tagIn, NoZeroLast, BeginsText, unicodeTold, descriptionTold, CutShort, no-count, no-units, UnicodeTaken, none, some, short, BeginsDescription, RecordFits, Asked, localizedTold, StringTaken, StringsTaken, BeginsLocalized, ReadLocalized}
 use Rattle.text_meaning.specs.Text.{byType, stringOf, slotsAfter}
 use Rattle.text_meaning.proofs.Cutting.{string-cut, cut-string}
 use Rattle.text_meaning.proofs.Found.{Value, in-profile, found}
@@ -246,7 +246,7 @@ desc-begun t b s u h =
 -- ---- multiLocalizedUnicodeType
 
 -- a record as the reader has it
-abbrev placed : Localized → Placed
+abbrev placed : Localized → PlacedString
 placed l = record { language = l .language; country = l .country; start = l .offset; bytes = 2 * length (l .units) }
 
 words-told : (ls : List Localized) → wordsIn (map placed ls) ≡ localizedTold ls
@@ -316,23 +316,23 @@ module _ (t : List ℕ) where
   abbrev localized : ℕ → Localized
   localized k = record { language = u16At t (at k); country = u16At t (at k + 2); bytes = u32At t (at k + 4); offset = u32At t (at k + 8); units = halvesAt t (u32At t (at k + 8)) (u32At t (at k + 4) / 2) }
 
-  unfoldable localizedFrom : ℕ → List Placed → List Localized
+  unfoldable localizedFrom : ℕ → List PlacedString → List Localized
   localizedFrom k [] = []
   localizedFrom k (r ∷ rs) = localized k ∷ localizedFrom (k + 1) rs
 
-  from-length : (k : ℕ) (rs : List Placed) → length (localizedFrom k rs) ≡ length rs
+  from-length : (k : ℕ) (rs : List PlacedString) → length (localizedFrom k rs) ≡ length rs
   unfolding localizedFrom
   from-length k [] = refl
   from-length k (r ∷ rs) = ap suc (from-length (k + 1) rs)
 
-  from-words : (k : ℕ) (rs : List Placed) → Row (RecordTaken t) k rs → wordsIn rs ≡ localizedTold (localizedFrom k rs)
+  from-words : (k : ℕ) (rs : List PlacedString) → Row (RecordTaken t) k rs → wordsIn rs ≡ localizedTold (localizedFrom k rs)
   unfolding localizedFrom Row wordsIn localizedTold even
   from-words k [] h = refl
   from-words k (r ∷ rs) (h, hs) =
-      let units : r .bytes ≡ 2 * length (localized k .units) = ap (λ (x : Placed). x .bytes) (h .is) ∙ omega (arith, halves-length t (u32At t (at k + 8)) (u32At t (at k + 4) / 2)) in
-      let language : r .language ≡ u16At t (at k) = ap (λ (x : Placed). x .language) (h .is) in
-      let country : r .country ≡ u16At t (at k + 2) = ap (λ (x : Placed). x .country) (h .is) in
-      let start : r .start ≡ u32At t (at k + 8) = ap (λ (x : Placed). x .start) (h .is) in
+      let units : r .bytes ≡ 2 * length (localized k .units) = ap (λ (x : PlacedString). x .bytes) (h .is) ∙ omega (arith, halves-length t (u32At t (at k + 8)) (u32At t (at k + 4) / 2)) in
+      let language : r .language ≡ u16At t (at k) = ap (λ (x : PlacedString). x .language) (h .is) in
+      let country : r .country ≡ u16At t (at k + 2) = ap (λ (x : PlacedString). x .country) (h .is) in
+      let start : r .start ≡ u32At t (at k + 8) = ap (λ (x : PlacedString). x .start) (h .is) in
       λ i. language i ∷ country i ∷ start i ∷ units i ∷ from-words (k + 1) rs hs i
 
   module _ (b : Bytes t) where
@@ -354,12 +354,12 @@ module _ (t : List ℕ) where
           stands = record { behind = rest; is = row16 t b n offset (omega arith) refl (row8 t (bytes % 2) (offset + 2 * n) refl) ∙ sym (append-assoc (each16 (halvesAt t offset n)) odd rest) };
         }
 
-    strings-begun : (k : ℕ) (rs : List Placed) → Row (RecordTaken t) k rs → StringsTaken t (localizedFrom k rs)
+    strings-begun : (k : ℕ) (rs : List PlacedString) → Row (RecordTaken t) k rs → StringsTaken t (localizedFrom k rs)
     unfolding localizedFrom Row Each
     strings-begun k [] h = tt
     strings-begun k (r ∷ rs) (h, hs) = (string-begun k (h .string-in-tag), strings-begun (k + 1) rs hs)
 
-    records-begun : (k : ℕ) (rs : List Placed) → Row (RecordTaken t) k rs → drop (at k) t ≡ recordElements (localizedFrom k rs) ++ drop (at (k + length rs)) t
+    records-begun : (k : ℕ) (rs : List PlacedString) → Row (RecordTaken t) k rs → drop (at k) t ≡ recordElements (localizedFrom k rs) ++ drop (at (k + length rs)) t
     unfolding localizedFrom Row recordElements recordElement
     records-begun k [] h = ap (λ (i : ℕ). drop (at i) t) (sym (add-zero k))
     records-begun k (r ∷ rs) (h, hs) =
@@ -371,7 +371,7 @@ module _ (t : List ℕ) where
         let rest = ap (λ (i : ℕ). drop i t) next ∙ records-begun (k + 1) rs hs ∙ ap (λ (i : ℕ). recordElements (localizedFrom (k + 1) rs) ++ drop (at i) t) last in
         then16 t b (at k) (omega arith) refl (then16 t b (at k + 2) (omega arith) refl (ap (λ (i : ℕ). drop i t) four ∙ then32 t b (at k + 4) (omega arith) refl (ap (λ (i : ℕ). drop i t) eight ∙ then32 t b (at k + 8) (omega arith) refl rest)))
 
-    mluc-begun : (rs : List Placed) → RecordsTaken t rs → BeginsLocalized t (localizedFrom 0 rs)
+    mluc-begun : (rs : List PlacedString) → RecordsTaken t rs → BeginsLocalized t (localizedFrom 0 rs)
     unfolding localizedHead signatureOf recordsAsked Row
     mluc-begun rs h =
         let l : 16 ≤ length t = long rs (h .count) (h .row) in
@@ -385,7 +385,7 @@ module _ (t : List ℕ) where
           strings = strings-begun 0 rs (h .row);
         }
       where
-        long : (rs : List Placed) → cond (eqb (u32At t 8) 0) 1 (u32At t 8) ≡ length rs → Row (RecordTaken t) 0 rs → 16 ≤ length t
+        long : (rs : List PlacedString) → cond (eqb (u32At t 8) 0) 1 (u32At t 8) ≡ length rs → Row (RecordTaken t) 0 rs → 16 ≤ length t
         long [] e h = elim (asked (u32At t 8) 0 e) [
           | inl c ↦ absurd (omega (arith, c .0, c .1))
           | inr c ↦ absurd (omega (arith, c .1))
@@ -442,7 +442,7 @@ desc-begins t reserved d rest h e =
       unicode = unicode-begins _ (d .language) (d .unicode) (s ++ rest) (h .language) (h .unicode) (h .unicode-count);
     }
 
-strings-begin : (t : List ℕ) (ls : List Localized) → StringsAt t ls → Each Fits ls → StringsTaken t ls
+strings-begin : (t : List ℕ) (ls : List Localized) → StringsAt t ls → Each RecordFits ls → StringsTaken t ls
 unfolding Each
 strings-begin t [] h f = tt
 strings-begin t (l ∷ ls) (h, hs) (f, fs) = (
@@ -472,7 +472,7 @@ mluc-begins t tag h =
 
 -- ---- in a profile
 
-module _ (p : List ℕ) (entry size : ℕ) (inside : TagInside p entry size) where
+module _ (p : List ℕ) (entry size : ℕ) (inside : TextTagInside p entry size) where
   abbrev tag-here : List ℕ
   tag-here = tagIn p entry size
 
@@ -490,14 +490,14 @@ module _ (p : List ℕ) (entry size : ℕ) (inside : TagInside p entry size) whe
   mluc-found : (ls : List Localized) → BeginsLocalized tag-here ls → recordsIn tag-here ≡ record { records = map placed ls; end = whole }
   mluc-found ls h = records-read tag-here (map placed ls) (mluc-laid tag-here ls h)
 
-  pub mluc-taken : (words : ℕ) (ls : List Localized) → BeginsLocalized tag-here ls → length ls * recordWords ≤ words → stringOf p entry size words ≡ mluc (length ls)
+  pub mluc-taken : (words : ℕ) (ls : List Localized) → BeginsLocalized tag-here ls → length ls * textRecordWords ≤ words → stringOf p entry size words ≡ mluc (length ls)
   unfolding localizedHead
   mluc-taken words ls h room =
       let n : length (map placed ls) ≡ length ls = placed-length ls in
       let long : 8 ≤ length tag-here = omega (arith, ap length (h .begins .is)) in
       in-profile p entry size words inside long ∙ mluc-accepted tag-here (map placed ls) words (mluc-laid tag-here ls h) (omega (arith, n)) ∙ ap mluc n
 
-  pub mluc-taken-left : (slots : List ℕ) (ls : List Localized) → BeginsLocalized tag-here ls → length ls * recordWords ≤ length slots → slotsAfter p entry size slots ≡ localizedTold ls ++ drop (length (localizedTold ls)) slots
+  pub mluc-taken-left : (slots : List ℕ) (ls : List Localized) → BeginsLocalized tag-here ls → length ls * textRecordWords ≤ length slots → slotsAfter p entry size slots ≡ localizedTold ls ++ drop (length (localizedTold ls)) slots
   mluc-taken-left slots ls h room =
       let words : wordsIn (recordsIn tag-here .records) ≡ localizedTold ls = ap (λ (r : RecordsRead). wordsIn (r .records)) (mluc-found ls h) ∙ words-told ls in
       ap (λ (a : Answer). slotsWith a (wordsIn (recordsIn tag-here .records)) slots) (mluc-taken (length slots) ls h room) ∙ ap (λ (ws : List ℕ). ws ++ drop (length ws) slots) words
@@ -509,10 +509,10 @@ module _ (p : List ℕ) (entry size : ℕ) (inside : TagInside p entry size) whe
   pub desc-read : (words reserved : ℕ) (d : Description) (rest : List ℕ) → IsDescription d → tag-here ≡ textDescriptionType reserved d ++ rest → stringOf p entry size words ≡ descriptionTold d
   desc-read words reserved d rest h e = desc-taken words _ _ (desc-begins tag-here reserved d rest h e)
 
-  pub mluc-read : (words : ℕ) (tag : LocalizedTag tag-here) → Asked tag → length (tag .records) * recordWords ≤ words → stringOf p entry size words ≡ mluc (length (tag .records))
+  pub mluc-read : (words : ℕ) (tag : LocalizedTag tag-here) → Asked tag → length (tag .records) * textRecordWords ≤ words → stringOf p entry size words ≡ mluc (length (tag .records))
   mluc-read words tag h room = mluc-taken words (tag .records) (mluc-begins tag-here tag h) room
 
-  pub mluc-slots : (slots : List ℕ) (tag : LocalizedTag tag-here) → Asked tag → length (tag .records) * recordWords ≤ length slots → slotsAfter p entry size slots ≡ localizedTold (tag .records) ++ drop (length (localizedTold (tag .records))) slots
+  pub mluc-slots : (slots : List ℕ) (tag : LocalizedTag tag-here) → Asked tag → length (tag .records) * textRecordWords ≤ length slots → slotsAfter p entry size slots ≡ localizedTold (tag .records) ++ drop (length (localizedTold (tag .records))) slots
   mluc-slots slots tag h room = mluc-taken-left slots (tag .records) (mluc-begins tag-here tag h) room
 
 -- ---- and back
@@ -525,7 +525,7 @@ module _ (p : List ℕ) (b : Bytes p) (entry size : ℕ) where
   here = part-bytes p b entry (countedSize size)
 
   record Answered (words : ℕ) (a : Answer) : Type 0 where
-    inside : TagInside p entry size
+    inside : TextTagInside p entry size
     laid : Taken tag-read a
     as-tag : stringOf p entry size words ≡ byType tag-read words
 
@@ -535,16 +535,16 @@ module _ (p : List ℕ) (b : Bytes p) (entry size : ℕ) where
       let k = accepted p entry size words w in
       record { inside = k .tag-in-profile; laid = subst (Taken tag-read) e (k .laid); as-tag = found p entry size words w .as-tag }
 
-  pub text-written : (words : ℕ) (s : Span) → stringOf p entry size words ≡ text s → TagInside p entry size × BeginsText tag-read s
+  pub text-written : (words : ℕ) (s : Span) → stringOf p entry size words ≡ text s → TextTagInside p entry size × BeginsText tag-read s
   text-written words s e = let k = answered words (text s) tt e in (k .inside, text-begun tag-read here s (k .laid))
 
-  pub desc-written : (words : ℕ) (s : Span) (u : Unicode) → stringOf p entry size words ≡ desc s u → TagInside p entry size × BeginsDescription tag-read s u
+  pub desc-written : (words : ℕ) (s : Span) (u : Unicode) → stringOf p entry size words ≡ desc s u → TextTagInside p entry size × BeginsDescription tag-read s u
   desc-written words s u e = let k = answered words (desc s u) tt e in (k .inside, desc-begun tag-read here s u (k .laid))
 
   pub mluc-written : (slots : List ℕ) (n : ℕ) → stringOf p entry size (length slots) ≡ mluc n → ReadLocalized p entry size n slots (slotsAfter p entry size slots)
   mluc-written slots n e =
       let k = answered (length slots) (mluc n) tt e in
-      let rs : List Placed = recordsIn tag-read .records in
+      let rs : List PlacedString = recordsIn tag-read .records in
       let words : wordsIn rs ≡ localizedTold (localizedFrom tag-read 0 rs) = from-words tag-read 0 rs (k .laid .taken .row) in
       record {
         inside = k .inside;

@@ -11,11 +11,11 @@ use mathlib.Core.Logic.{_⊎_, inl, inr}
 use lib.Dec.{ltb, eqb}
 use lib.ListN.{length, take, drop}
 use borrow.Author.Tests.{ltb-false}
-use Rattle.fields.specs.Place.{countedSize}
+use Rattle.fields.specs.Place.{countedSize, countedTag}
 use Rattle.text_meaning.specs.Answer.{Answer, text, desc, mluc, absent, refused, Span, span, nowhere, Unicode, slotsWith}
 use Rattle.text_meaning.specs.Layout.{asciiEnd, unicodeCount, unicodeStart, headerEnd, stringEnd}
-use Rattle.text_meaning.specs.Mluc.{Localized, header, string, is, no, RecordsRead, first, localizedAt, recordAt, follow, recordsFrom, recordsAsked, recordsIn, recordWords, wordsOf, wordsIn}
-use Rattle.text_meaning.specs.Text.{tagOf, stringOf}
+use Rattle.text_meaning.specs.Mluc.{PlacedString, header, string, is, no, RecordsRead, first, localizedAt, recordAt, follow, recordsFrom, recordsAsked, recordsIn, textRecordWords, placedWords, wordsIn}
+use Rattle.text_meaning.specs.Text.{stringOf}
 use Rattle.text_meaning.proofs.Found.{Value}
 use Rattle.text_meaning.proofs.Taken.{Row, UnicodeWhole, UnicodeShort, RecordTaken, Taken, read-row, accepted}
 
@@ -37,12 +37,12 @@ unicode-inside t at u (inr h) = rw (h .answer-is) (omega arith)
 
 -- the words are those of header k, which lies in the tag, and so does its string
 pub record ReadAt (t : List ℕ) (k : ℕ) (words : List ℕ) : Type 0 where
-  pub record-is : words ≡ wordsOf (localizedAt t k)
+  pub record-is : words ≡ placedWords (localizedAt t k)
   pub header-in-tag : headerEnd k ≤ length t
   pub string-in-tag : stringEnd t k ≤ length t
 
 -- record k of those that are read from header `at` on, in front of whatever else
-pub record-at : (t rest : List ℕ) (n at k : ℕ) → k < length (recordsFrom t at n .records) → ReadAt t (at + k) (take recordWords (drop (k * recordWords) (wordsIn (recordsFrom t at n .records) ++ rest)))
+pub record-at : (t rest : List ℕ) (n at k : ℕ) → k < length (recordsFrom t at n .records) → ReadAt t (at + k) (take textRecordWords (drop (k * textRecordWords) (wordsIn (recordsFrom t at n .records) ++ rest)))
 unfolding recordsFrom recordAt wordsIn
 record-at t rest zero at k = λ l. absurd (omega arith)
 record-at t rest (suc n) at k = by (ltb (length t) (headerEnd at)) refl (ltb (length t) (stringEnd t at)) refl k (record-at t rest n (at + 1))
@@ -50,17 +50,17 @@ record-at t rest (suc n) at k = by (ltb (length t) (headerEnd at)) refl (ltb (le
     seen : Bool → Bool → RecordsRead
     seen b c = follow (cond b (no header) (cond c (no string) (is (localizedAt t at)))) (λ r. first r (recordsFrom t (at + 1) n))
 
-    by : (b : Bool) → ltb (length t) (headerEnd at) ≡ b → (c : Bool) → ltb (length t) (stringEnd t at) ≡ c → (k : ℕ) → ((j : ℕ) → j < length (recordsFrom t (at + 1) n .records) → ReadAt t (at + 1 + j) (take recordWords (drop (j * recordWords) (wordsIn (recordsFrom t (at + 1) n .records) ++ rest)))) → k < length (seen b c .records) → ReadAt t (at + k) (take recordWords (drop (k * recordWords) (wordsIn (seen b c .records) ++ rest)))
+    by : (b : Bool) → ltb (length t) (headerEnd at) ≡ b → (c : Bool) → ltb (length t) (stringEnd t at) ≡ c → (k : ℕ) → ((j : ℕ) → j < length (recordsFrom t (at + 1) n .records) → ReadAt t (at + 1 + j) (take textRecordWords (drop (j * textRecordWords) (wordsIn (recordsFrom t (at + 1) n .records) ++ rest)))) → k < length (seen b c .records) → ReadAt t (at + k) (take textRecordWords (drop (k * textRecordWords) (wordsIn (seen b c .records) ++ rest)))
     by true e c f k ih l = absurd (omega arith)
     by false e true f k ih l = absurd (omega arith)
     by false e false f zero ih l = rw (add-zero at) record { record-is = refl; header-in-tag = ltb-false _ _ e; string-in-tag = ltb-false _ _ f }
     by false e false f (suc k) ih l =
-        let m : suc k * recordWords ≡ suc (suc (suc (suc (k * recordWords)))) = omega arith in
+        let m : suc k * textRecordWords ≡ suc (suc (suc (suc (k * textRecordWords)))) = omega arith in
         let next : at + suc k ≡ at + 1 + k = omega arith in
         rw (m, next) (ih k (omega arith))
 
 -- each record has a header of its own in the tag
-row-room : (t : List ℕ) (k : ℕ) (rs : List Localized) → 12 * k ≤ length t → Row (RecordTaken t) k rs → 12 * (k + length rs) ≤ length t
+row-room : (t : List ℕ) (k : ℕ) (rs : List PlacedString) → 12 * k ≤ length t → Row (RecordTaken t) k rs → 12 * (k + length rs) ≤ length t
 unfolding Row
 row-room t k [] l h = omega (arith, l)
 row-room t k (r ∷ rs) l h = omega (arith, row-room t (k + 1) rs (omega (arith, h .0 .header-in-tag)) (h .1))
@@ -76,7 +76,7 @@ module _ (t : List ℕ) where
   abbrev pub Inside : Answer → Type 0
   Inside (text s) = endOf s ≤ length t
   Inside (desc s u) = (endOf s ≤ length t) × (endOf (u .string) ≤ length t)
-  Inside (mluc n) = (slots : List ℕ) (k : ℕ) → k < n → ReadAt t k (take recordWords (drop (k * recordWords) (slotsWith (mluc n) (wordsIn (recordsIn t .records)) slots)))
+  Inside (mluc n) = (slots : List ℕ) (k : ℕ) → k < n → ReadAt t k (take textRecordWords (drop (k * textRecordWords) (slotsWith (mluc n) (wordsIn (recordsIn t .records)) slots)))
   Inside absent = Unit
   Inside (refused n) = Unit
 
@@ -90,9 +90,9 @@ module _ (t : List ℕ) where
 
 pub record ValueInside (p : List ℕ) (entry size : ℕ) (a : Answer) : Type 0 where
   pub tag-in-profile : entry + countedSize size ≤ length p
-  pub ranges-in-tag : Inside (tagOf p entry size) a
+  pub ranges-in-tag : Inside (countedTag p entry size) a
 
 pub value-inside : (p : List ℕ) (entry size words : ℕ) → Value (stringOf p entry size words) → ValueInside p entry size (stringOf p entry size words)
 value-inside p entry size words v =
     let h = accepted p entry size words v in
-    record { tag-in-profile = h .tag-in-profile; ranges-in-tag = taken-inside (tagOf p entry size) (stringOf p entry size words) (h .laid) }
+    record { tag-in-profile = h .tag-in-profile; ranges-in-tag = taken-inside (countedTag p entry size) (stringOf p entry size words) (h .laid) }

@@ -10,26 +10,26 @@ use lib.ListN.{length}
 use borrow.Author.Tests.{ltb-true, ltb-false, le-ltb, eqb-true}
 use Rattle.fields.proofs.Never.{never}
 use Rattle.fields.specs.Bytes.{u32At}
-use Rattle.fields.specs.Place.{countedSize}
+use Rattle.fields.specs.Place.{countedSize, countedTag}
 use Rattle.fields.specs.Tag.{signatureOf}
 use Rattle.fields.specs.declared.Kind.the-variants.{Text, Desc, Mluc}
 use Rattle.fields.proofs.Choice.{each}
 use Rattle.text_meaning.specs.Answer.{Answer, mluc, absent, refused}
 use Rattle.text_meaning.specs.Layout.{asciiEnd}
-use Rattle.text_meaning.specs.Mluc.{header, string, RecordsEnd, whole, stopped, recordsAsked, recordsIn, recordWords}
-use Rattle.text_meaning.specs.Text.{textOf, descOf, slottedOf, endedBy, mlucOf, byType, tagOf, stringOf}
+use Rattle.text_meaning.specs.Mluc.{header, string, RecordsEnd, whole, stopped, recordsAsked, recordsIn, textRecordWords}
+use Rattle.text_meaning.specs.Text.{textOf, descOf, slottedOf, endedBy, mlucOf, byType, stringOf}
 use Rattle.text_meaning.proofs.Shared.{as-mluc}
 
 module _ (p : List ℕ) (entry size words : ℕ) where
   abbrev t : List ℕ
-  t = tagOf p entry size
+  t = countedTag p entry size
 
   pub record Short : Type 0 where
     pub tag-in-profile : entry + countedSize size ≤ length p
     pub long : 8 ≤ countedSize size
     pub type-is : u32At t 0 ≡ signatureOf Mluc
     pub all-read : recordsIn t .end ≡ whole
-    pub few : words / recordWords < recordsAsked t
+    pub few : words / textRecordWords < recordsAsked t
 
   abbrev Behind : Answer → Type 0
   Behind a = a ≡ refused 14 → Short
@@ -43,7 +43,7 @@ module _ (p : List ℕ) (entry size words : ℕ) where
   by-end : entry + countedSize size ≤ length p → 8 ≤ countedSize size → u32At t 0 ≡ signatureOf Mluc → (x : RecordsEnd) → recordsIn t .end ≡ x → Behind (endedBy x (slottedOf (recordsAsked t) words))
   unfolding slottedOf
   by-end fits long i whole e =
-      each Behind (ltb (words / recordWords) (recordsAsked t)) _ _
+      each Behind (ltb (words / textRecordWords) (recordsAsked t)) _ _
       (λ l h. record { tag-in-profile = fits; long = long; type-is = i; all-read = e; few = ltb-true _ _ l })
       (λ _ h. never cc)
   by-end fits long i (stopped header) e = no-other _ (λ z. omega arith)
@@ -64,8 +64,8 @@ module _ (p : List ℕ) (entry size words : ℕ) where
       (λ _. no-absence))))))
 
   -- with slots for all records everything stays, and they are answered
-  pub enough : Short → (many : ℕ) → recordsAsked t ≤ many / recordWords → stringOf p entry size many ≡ mluc (recordsAsked t)
+  pub enough : Short → (many : ℕ) → recordsAsked t ≤ many / textRecordWords → stringOf p entry size many ≡ mluc (recordsAsked t)
   unfolding stringOf mlucOf slottedOf
   enough w many room =
       let some : 4 ≤ countedSize size = omega (arith, w .long) in
-      rw (le-ltb (countedSize size) 4 some, le-ltb (length p) (entry + countedSize size) (w .tag-in-profile), le-ltb (countedSize size) 8 (w .long), as-mluc t many (w .type-is), w .all-read, le-ltb (many / recordWords) (recordsAsked t) room)
+      rw (le-ltb (countedSize size) 4 some, le-ltb (length p) (entry + countedSize size) (w .tag-in-profile), le-ltb (countedSize size) 8 (w .long), as-mluc t many (w .type-is), w .all-read, le-ltb (many / textRecordWords) (recordsAsked t) room)

@@ -10,14 +10,14 @@ use lib.Dec.{ltb, eqb}
 use lib.ListN.{length}
 use borrow.Author.Tests.{ltb-false, le-ltb}
 use Rattle.fields.specs.Bytes.{u32At}
-use Rattle.fields.specs.Place.{countedSize}
+use Rattle.fields.specs.Place.{countedSize, countedTag}
 use Rattle.fields.specs.Tag.{signatureOf}
 use Rattle.fields.specs.declared.Kind.the-variants.{Text, Mluc}
 use Rattle.fields.proofs.Append.{longer, part-append}
 use Rattle.fields.proofs.Grow.{Grows, choose, passes}
 use Rattle.text_meaning.specs.Answer.{Answer, refused}
-use Rattle.text_meaning.specs.Mluc.{RecordsEnd, whole, stopped, recordsAsked, recordsIn, recordWords, wordsIn}
-use Rattle.text_meaning.specs.Text.{slottedOf, endedBy, mlucOf, byType, tagOf, stringOf}
+use Rattle.text_meaning.specs.Mluc.{RecordsEnd, whole, stopped, recordsAsked, recordsIn, textRecordWords, wordsIn}
+use Rattle.text_meaning.specs.Text.{slottedOf, endedBy, mlucOf, byType, stringOf}
 use Rattle.text_meaning.proofs.Found.{Value, found}
 
 -- the answers that may change: those of one refusal
@@ -40,8 +40,8 @@ module _ (few many : ℕ) (h : few ≤ many) where
   slotted-more : (n : ℕ) → Grows (Is 14) (slottedOf n few) (slottedOf n many)
   unfolding slottedOf
   slotted-more n =
-      passes (Is 14) (ltb (few / recordWords) n) (ltb (many / recordWords) n)
-      (λ e. le-ltb (many / recordWords) n (omega (arith, ltb-false (few / recordWords) n e, h))) refl (λ _. inr refl)
+      passes (Is 14) (ltb (few / textRecordWords) n) (ltb (many / textRecordWords) n)
+      (λ e. le-ltb (many / textRecordWords) n (omega (arith, ltb-false (few / textRecordWords) n e, h))) refl (λ _. inr refl)
 
   mluc-more : (t : List ℕ) → Grows (Is 14) (mlucOf t few) (mlucOf t many)
   unfolding mlucOf
@@ -62,14 +62,14 @@ module _ (few many : ℕ) (h : few ≤ many) where
   more-slots p entry size =
       choose (Is 14) (ltb (countedSize size) 4) (λ _. inr refl)
       (λ _. choose (Is 14) (ltb (length p) (entry + countedSize size)) (λ _. inr refl)
-      (λ _. choose (Is 14) (ltb (countedSize size) 8) (λ _. inr refl) (λ _. type-more (tagOf p entry size))))
+      (λ _. choose (Is 14) (ltb (countedSize size) 8) (λ _. inr refl) (λ _. type-more (countedTag p entry size))))
 
 -- ---- both at once
 
 -- with bytes behind the profile and more slots a value keeps every field and every record
 pub record Stays (p q : List ℕ) (entry size few many : ℕ) : Type 0 where
   pub answer-stays : stringOf (p ++ q) entry size many ≡ stringOf p entry size few
-  pub records-stay : wordsIn (recordsIn (tagOf (p ++ q) entry size) .records) ≡ wordsIn (recordsIn (tagOf p entry size) .records)
+  pub records-stay : wordsIn (recordsIn (countedTag (p ++ q) entry size) .records) ≡ wordsIn (recordsIn (countedTag p entry size) .records)
 
 -- what may change is not a value, so a value is kept
 kept : (a b : Answer) (n : ℕ) → Value a → Grows (Is n) a b → b ≡ a

@@ -12,13 +12,13 @@ use Rattle.fields.specs.Bytes.{u32At}
 use Rattle.fields.specs.Tag.{signatureOf}
 use Rattle.fields.specs.declared.Kind.the-variants.{Text, Desc, Mluc}
 use Rattle.text_meaning.specs.Answer.{Answer, inNumbers, slotsWith}
-use Rattle.text_meaning.specs.Mluc.{Localized, FoundRecord, is, no, whole, first, recordAt, follow, recordsFrom, recordWords, wordsIn}
+use Rattle.text_meaning.specs.Mluc.{PlacedString, FoundRecord, is, no, whole, first, recordAt, follow, recordsFrom, textRecordWords, wordsIn}
 use Rattle.text_meaning.specs.Text.{AnswerAndSlots, textOf, descOf, mlucOf, byType}
 use Rattle.text_meaning.specs.declared.TextAnswer.{TextAnswer}
 
 -- ---- the words of records
 
-pub words-length : (rs : List Localized) → length (wordsIn rs) ≡ length rs * recordWords
+pub words-length : (rs : List PlacedString) → length (wordsIn rs) ≡ length rs * textRecordWords
 unfolding wordsIn
 words-length [] = refl
 words-length (r ∷ rs) = omega (arith, words-length rs)

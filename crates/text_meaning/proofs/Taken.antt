@@ -2,7 +2,6 @@
 -- `Conforms`, which says the same by what the standards write.
 -- Assumes nothing.
 use Prim.Native.Nat.{ℕ, zero, suc, _+_, _-_, _*_, _/_, _≤_, _<_}
-use native.Mathlib.Omega.{arith}
 use mathlib.Core.Path.{_≡_, refl, sym, _∙_}
 use mathlib.Core.Bool.{Bool, true, false, cond}
 use mathlib.Core.List.{List, [], _∷_}
@@ -13,21 +12,21 @@ use borrow.Author.Tests.{lt-ltb, le-ltb, ltb-true, ltb-false, eqb-true}
 use Rattle.fields.proofs.Never.{never}
 use Rattle.fields.specs.Bytes.{u32At}
 use Rattle.fields.specs.House.{tagSize}
-use Rattle.fields.specs.Place.{countedSize}
+use Rattle.fields.specs.Place.{countedSize, countedTag}
 use Rattle.fields.specs.Tag.{signatureOf}
 use Rattle.fields.specs.declared.Kind.the-variants.{Text, Desc, Mluc}
 use Rattle.fields.proofs.Choice.{each}
 use Rattle.text_meaning.specs.Answer.{Answer, text, desc, mluc, absent, refused, Span, span, nowhere, Unicode}
 use Rattle.text_meaning.specs.Cut.{byteOf, unitOf, keptOf, Cut}
 use Rattle.text_meaning.specs.Layout.{textStart, asciiStart, asciiCount, asciiEnd, unicodeLanguage, unicodeCount, unicodeStart, unicodeEnd, headerEnd, stringEnd}
-use Rattle.text_meaning.specs.Mluc.{Localized, is, no, header, string, RecordsEnd, whole, stopped, first, localizedAt, recordAt, follow, recordsFrom, recordsAsked, recordsIn, recordWords}
-use Rattle.text_meaning.specs.Text.{textOf, unicodeOf, descOf, slottedOf, endedBy, mlucOf, byType, tagOf, stringOf}
+use Rattle.text_meaning.specs.Mluc.{PlacedString, is, no, header, string, RecordsEnd, whole, stopped, first, localizedAt, recordAt, follow, recordsFrom, recordsAsked, recordsIn, textRecordWords}
+use Rattle.text_meaning.specs.Text.{textOf, unicodeOf, descOf, slottedOf, endedBy, mlucOf, byType, stringOf}
 use Rattle.text_meaning.proofs.Cutting.{kept-cut, cut-kept}
 use Rattle.text_meaning.proofs.Found.{Value, found}
 use Rattle.text_meaning.proofs.Shared.{as-text, as-mluc, as-desc, whole-count}
 
 -- a condition on each of the records from record k on
-unfoldable pub Row : (ℕ → Localized → Type 0) → ℕ → List Localized → Type 0
+unfoldable pub Row : (ℕ → PlacedString → Type 0) → ℕ → List PlacedString → Type 0
 Row P k [] = Unit
 Row P k (r ∷ rs) = P k r × Row P (k + 1) rs
 
@@ -67,12 +66,12 @@ pub record DescriptionTaken (t : List ℕ) (s : Span) (u : Unicode) : Type 0 whe
   pub unicode : UnicodeWhole t (asciiEnd t) u ⊎ UnicodeShort t (asciiEnd t) u
 
 -- `mluc`: a count of 0 is taken for 1, any record size for 12, and an odd last byte is dropped
-pub record RecordTaken (t : List ℕ) (k : ℕ) (r : Localized) : Type 0 where
+pub record RecordTaken (t : List ℕ) (k : ℕ) (r : PlacedString) : Type 0 where
   pub is : r ≡ localizedAt t k
   pub header-in-tag : headerEnd k ≤ length t
   pub string-in-tag : stringEnd t k ≤ length t
 
-pub record RecordsTaken (t : List ℕ) (rs : List Localized) : Type 0 where
+pub record RecordsTaken (t : List ℕ) (rs : List PlacedString) : Type 0 where
   pub signature : u32At t 0 ≡ signatureOf Mluc
   pub count : recordsAsked t ≡ length rs
   pub row : Row (RecordTaken t) 0 rs
@@ -103,29 +102,29 @@ desc-accepted t s u words h =
     as-desc t words (a .signature) ∙ rw (le-ltb (length t) tagSize (a .counted), le-ltb (length t) (asciiEnd t) (a .whole), cut-kept (byteOf t asciiStart) (asciiCount t) (s .bytes) (a .string), unicode-read t (asciiEnd t) u (h .unicode), ← a .start-is)
 
 -- records that are taken are read
-row-read : (t : List ℕ) (k : ℕ) (rs : List Localized) → Row (RecordTaken t) k rs → recordsFrom t k (length rs) ≡ record { records = rs; end = whole }
+row-read : (t : List ℕ) (k : ℕ) (rs : List PlacedString) → Row (RecordTaken t) k rs → recordsFrom t k (length rs) ≡ record { records = rs; end = whole }
 unfolding Row recordsFrom recordAt
 row-read t k [] h = refl
 row-read t k (r ∷ rs) (h, rest) = rw (le-ltb (length t) (headerEnd k) (h .header-in-tag), le-ltb (length t) (stringEnd t k) (h .string-in-tag), row-read t (k + 1) rs rest, ← h .is)
 
-pub records-read : (t : List ℕ) (rs : List Localized) → RecordsTaken t rs → recordsIn t ≡ record { records = rs; end = whole }
+pub records-read : (t : List ℕ) (rs : List PlacedString) → RecordsTaken t rs → recordsIn t ≡ record { records = rs; end = whole }
 unfolding recordsIn
 records-read t rs h = rw (h .count) (row-read t 0 rs (h .row))
 
-pub mluc-accepted : (t : List ℕ) (rs : List Localized) (words : ℕ) → RecordsTaken t rs → length rs ≤ words / recordWords → byType t words ≡ mluc (length rs)
+pub mluc-accepted : (t : List ℕ) (rs : List PlacedString) (words : ℕ) → RecordsTaken t rs → length rs ≤ words / textRecordWords → byType t words ≡ mluc (length rs)
 unfolding mlucOf slottedOf
-mluc-accepted t rs words h l = as-mluc t words (h .signature) ∙ rw (records-read t rs h, h .count, le-ltb (words / recordWords) (length rs) l)
+mluc-accepted t rs words h l = as-mluc t words (h .signature) ∙ rw (records-read t rs h, h .count, le-ltb (words / textRecordWords) (length rs) l)
 
 -- and only then
-pub mluc-room : (t : List ℕ) (rs : List Localized) (words n : ℕ) → RecordsTaken t rs → byType t words ≡ mluc n → length rs ≤ words / recordWords
+pub mluc-room : (t : List ℕ) (rs : List PlacedString) (words n : ℕ) → RecordsTaken t rs → byType t words ≡ mluc n → length rs ≤ words / textRecordWords
 unfolding mlucOf slottedOf
-mluc-room t rs words n h e = by (ltb (words / recordWords) (length rs)) refl
+mluc-room t rs words n h e = by (ltb (words / textRecordWords) (length rs)) refl
   where
-    by : (b : Bool) → ltb (words / recordWords) (length rs) ≡ b → length rs ≤ words / recordWords
+    by : (b : Bool) → ltb (words / textRecordWords) (length rs) ≡ b → length rs ≤ words / textRecordWords
     by true f =
         let few : byType t words ≡ refused 14 = as-mluc t words (h .signature) ∙ rw (records-read t rs h, h .count, f) in
         never cc
-    by false f = ltb-false (words / recordWords) (length rs) f
+    by false f = ltb-false (words / textRecordWords) (length rs) f
 
 -- ---- what is accepted is taken
 
@@ -171,7 +170,7 @@ module _ (t : List ℕ) where
       by : (x : RecordsEnd) → recordsIn t .end ≡ x → Taken (endedBy x (slottedOf (recordsAsked t) words))
       by whole e =
           let n : length (recordsIn t .records) ≡ recordsAsked t = whole-count t 0 (recordsAsked t) e in
-          each Taken (ltb (words / recordWords) (recordsAsked t)) _ _ (λ _. tt)
+          each Taken (ltb (words / textRecordWords) (recordsAsked t)) _ _ (λ _. tt)
           (λ _. record { taken = record { signature = i; count = sym n; row = read-row t (recordsAsked t) 0 }; end-is = e; count-is = sym n })
       by (stopped header) e = tt
       by (stopped string) e = tt
@@ -194,9 +193,9 @@ module _ (t : List ℕ) where
 -- what is accepted is taken, and lies in the profile
 pub record Accepted (p : List ℕ) (entry size : ℕ) (a : Answer) : Type 0 where
   pub tag-in-profile : entry + countedSize size ≤ length p
-  pub laid : Taken (tagOf p entry size) a
+  pub laid : Taken (countedTag p entry size) a
 
 pub accepted : (p : List ℕ) (entry size words : ℕ) → Value (stringOf p entry size words) → Accepted p entry size (stringOf p entry size words)
 accepted p entry size words v =
     let f = found p entry size words v in
-    record { tag-in-profile = f .tag-in-profile; laid = rw (f .as-tag) (taken (tagOf p entry size) words (f .long)) }
+    record { tag-in-profile = f .tag-in-profile; laid = rw (f .as-tag) (taken (countedTag p entry size) words (f .long)) }

@@ -4,7 +4,7 @@ use mathlib.Core.Path.{_≡_}
 use mathlib.Core.List.{List, [], _∷_, _++_}
 use lib.ListN.{length, replicate}
 use Rattle.text_meaning.specs.Answer.{Answer, text, desc, mluc, absent, refused, span}
-use Rattle.text_meaning.specs.Mluc.{recordWords}
+use Rattle.text_meaning.specs.Mluc.{textRecordWords}
 use Rattle.text_meaning.specs.Text.{stringOf, slotsAfter}
 
 -- profile and size, the lent words, and the answer and the words as they are left
@@ -39,11 +39,11 @@ english long at = (0x65 ∷ 0x6e ∷ 0x55 ∷ 0x53 ∷ []) ++ long ++ at
 
 -- so many slots, each word 7
 abbrev pub slots : ℕ → List ℕ
-slots n = replicate (n * recordWords) 7
+slots n = replicate (n * textRecordWords) 7
 
 -- its record
-abbrev pub recordOf : ℕ → ℕ → List ℕ
-recordOf start bytes = 0x656e ∷ 0x5553 ∷ start ∷ bytes ∷ []
+abbrev pub englishRecord : ℕ → ℕ → List ℕ
+englishRecord start bytes = 0x656e ∷ 0x5553 ∷ start ∷ bytes ∷ []
 
 -- count 0, a string of five bytes at 28
 abbrev pub five : List ℕ
@@ -94,11 +94,11 @@ cases =
     gives fullDesc 11 [] (refused 2) [] ∷
     gives fullDesc 15 [] (refused 2) [] ∷
     -- one record, length 4; the slot behind it stays; no slot is refusal 14
-    gives five 33 (slots 1) (mluc 1) (recordOf 28 4) ∷
-    gives five 33 (slots 2) (mluc 1) (recordOf 28 4 ++ slots 1) ∷
+    gives five 33 (slots 1) (mluc 1) (englishRecord 28 4) ∷
+    gives five 33 (slots 2) (mluc 1) (englishRecord 28 4 ++ slots 1) ∷
     gives five 33 [] (refused 14) [] ∷
     -- a zero unit at the end of its string stays
-    gives (mlucTag (word 1) (english (word 4) (word 28) ++ (0 ∷ 0x41 ∷ 0 ∷ 0 ∷ []))) 32 (slots 1) (mluc 1) (recordOf 28 4) ∷
+    gives (mlucTag (word 1) (english (word 4) (word 28) ++ (0 ∷ 0x41 ∷ 0 ∷ 0 ∷ []))) 32 (slots 1) (mluc 1) (englishRecord 28 4) ∷
     -- a string past the tag is absent, even where the next header is past it too; that one alone is refusal 2
     gives five 32 (slots 1) absent (slots 1) ∷
     gives (mlucTag (word 2) (english (word 1) (word 28))) 28 (slots 2) absent (slots 2) ∷

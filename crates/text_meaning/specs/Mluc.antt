@@ -7,7 +7,7 @@ use lib.ListN.{length}
 use Rattle.text_meaning.specs.Layout.{recordCount, headerEnd, languageAt, countryAt, stringLength, stringStart, stringEnd}
 
 -- a record: language and country, two bytes each, and where its string lies in the tag
-pub record Localized : Type 0 where
+pub record PlacedString : Type 0 where
   pub language : ℕ
   pub country : ℕ
   pub start : ℕ
@@ -20,7 +20,7 @@ pub data Fault : Type 0 where
 
 -- what stands at a record's place
 pub data FoundRecord : Type 0 where
-  is : Localized → FoundRecord
+  is : PlacedString → FoundRecord
   no : Fault → FoundRecord
 
 -- all records are read, or the reading stops
@@ -30,7 +30,7 @@ pub data RecordsEnd : Type 0 where
 
 -- the records as far as the reading gets, and its end
 pub record RecordsRead : Type 0 where
-  pub records : List Localized
+  pub records : List PlacedString
   pub end : RecordsEnd
 
 abbrev pub done : RecordsRead
@@ -39,7 +39,7 @@ done = record { records = []; end = whole }
 abbrev pub stops : Fault → RecordsRead
 stops f = record { records = []; end = stopped f }
 
-abbrev pub first : Localized → RecordsRead → RecordsRead
+abbrev pub first : PlacedString → RecordsRead → RecordsRead
 first r rest = record { records = r ∷ rest .records; end = rest .end }
 
 -- an odd last byte is no part of a string of two-byte units
@@ -47,7 +47,7 @@ unfoldable pub even : ℕ → ℕ
 even n = n / 2 * 2
 
 -- record k, as its header has it; nothing is trimmed
-abbrev pub localizedAt : List ℕ → ℕ → Localized
+abbrev pub localizedAt : List ℕ → ℕ → PlacedString
 localizedAt t k = record { language = languageAt t k; country = countryAt t k; start = stringStart t k; bytes = even (stringLength t k) }
 
 -- what stands at its place: the header first, then its string
@@ -58,7 +58,7 @@ recordAt t k =
     is (localizedAt t k)))
 
 -- what is seen at a place, and what follows a record there
-abbrev pub follow : FoundRecord → (Localized → RecordsRead) → RecordsRead
+abbrev pub follow : FoundRecord → (PlacedString → RecordsRead) → RecordsRead
 follow (is r) next = next r
 follow (no f) next = stops f
 
@@ -76,13 +76,13 @@ unfoldable pub recordsIn : List ℕ → RecordsRead
 recordsIn t = recordsFrom t 0 (recordsAsked t)
 
 -- words of a record
-abbrev pub recordWords : ℕ
-recordWords = 4
+abbrev pub textRecordWords : ℕ
+textRecordWords = 4
 
-abbrev pub wordsOf : Localized → List ℕ
-wordsOf r = r .language ∷ r .country ∷ r .start ∷ r .bytes ∷ []
+abbrev pub placedWords : PlacedString → List ℕ
+placedWords r = r .language ∷ r .country ∷ r .start ∷ r .bytes ∷ []
 
 -- the words of records, one behind the other
-unfoldable pub wordsIn : List Localized → List ℕ
+unfoldable pub wordsIn : List PlacedString → List ℕ
 wordsIn [] = []
-wordsIn (r ∷ rs) = wordsOf r ++ wordsIn rs
+wordsIn (r ∷ rs) = placedWords r ++ wordsIn rs

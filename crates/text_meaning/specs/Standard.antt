@@ -12,14 +12,14 @@ use Rattle.icc.specs.Elements.{Stands}
 use Rattle.icc.specs.Numbers.{be32, each16, Is16, Is32, Each16}
 use Rattle.icc.specs.Text.{textType, asciiPart, unicodePart, UnicodeString, no-string, characters, Description, Localized, localizedHead, LocalizedTag}
 use Rattle.text_meaning.specs.Answer.{Answer, desc, Span, span, Unicode}
-use Rattle.text_meaning.specs.Mluc.{recordWords}
+use Rattle.text_meaning.specs.Mluc.{textRecordWords}
 
 -- the tag in its profile: a size of 0 counts as 12
 abbrev pub bytesIn : ℕ → ℕ
 bytesIn size = cond (eqb size 0) 12 size
 
-abbrev pub TagInside : List ℕ → ℕ → ℕ → Type 0
-TagInside profile entry size = entry + bytesIn size ≤ length profile
+abbrev pub TextTagInside : List ℕ → ℕ → ℕ → Type 0
+TextTagInside profile entry size = entry + bytesIn size ≤ length profile
 
 abbrev pub tagIn : List ℕ → ℕ → ℕ → List ℕ
 tagIn profile entry size = take (bytesIn size) (drop entry profile)
@@ -79,7 +79,7 @@ pub record BeginsDescription (t : List ℕ) (s : Span) (u : Unicode) : Type 0 wh
 -- ---- multiLocalizedUnicodeType
 
 -- numbers that their bytes hold
-pub record Fits (l : Localized) : Type 0 where
+pub record RecordFits (l : Localized) : Type 0 where
   pub language : Is16 (l .language)
   pub country : Is16 (l .country)
   pub bytes : Is32 (l .bytes)
@@ -89,7 +89,7 @@ pub record Fits (l : Localized) : Type 0 where
 pub record Asked {t : List ℕ} (tag : LocalizedTag t) : Type 0 where
   pub some-record : 1 ≤ length (tag .records)
   pub count-fits : Is32 (length (tag .records))
-  pub fit : Each Fits (tag .records)
+  pub fit : Each RecordFits (tag .records)
 
 -- the words of the records: language, country, where the string starts, and the bytes of its units
 unfoldable pub localizedTold : List Localized → List ℕ
@@ -100,7 +100,7 @@ localizedTold (l ∷ ls) = l .language ∷ l .country ∷ l .offset ∷ 2 * leng
 pub record StringTaken (t : List ℕ) (l : Localized) : Type 0 where
   pub odd : List ℕ
   pub at-most-one : length odd ≤ 1
-  pub fits : Fits l
+  pub fits : RecordFits l
   pub units : Each16 (l .units)
   pub bytes : l .bytes ≡ 2 * length (l .units) + length odd
   pub in-tag : l .offset ≤ length t
@@ -121,9 +121,9 @@ pub record BeginsLocalized (t : List ℕ) (ls : List Localized) : Type 0 where
 
 -- a tag of n such records, and the slots as they were lent and as they are left
 pub record ReadLocalized (profile : List ℕ) (entry size n : ℕ) (slots left : List ℕ) : Type 0 where
-  pub inside : TagInside profile entry size
+  pub inside : TextTagInside profile entry size
   pub records : List Localized
   pub begins : BeginsLocalized (tagIn profile entry size) records
   pub count-is : n ≡ length records
-  pub room : length records * recordWords ≤ length slots
+  pub room : length records * textRecordWords ≤ length slots
   pub slots-are : left ≡ localizedTold records ++ drop (length (localizedTold records)) slots

@@ -7,13 +7,13 @@ use lib.Dec.{ltb, eqb}
 use lib.ListN.{length}
 use Rattle.fields.specs.Bytes.{u32At}
 use Rattle.fields.specs.House.{tagSize}
-use Rattle.fields.specs.Place.{tagAt, countedSize}
+use Rattle.fields.specs.Place.{countedSize, countedTag}
 use Rattle.fields.specs.Tag.{signatureOf}
 use Rattle.fields.specs.declared.Kind.the-variants.{Text, Desc, Mluc}
 use Rattle.text_meaning.specs.Answer.{Answer, text, desc, mluc, absent, refused, span, nowhere, Unicode, inNumbers, slotsWith}
 use Rattle.text_meaning.specs.Cut.{byteOf, unitOf, keptOf}
 use Rattle.text_meaning.specs.Layout.{textStart, asciiStart, asciiCount, asciiEnd, unicodeLanguage, unicodeCount, unicodeStart, unicodeEnd}
-use Rattle.text_meaning.specs.Mluc.{Fault, header, string, RecordsEnd, whole, stopped, recordsAsked, recordsIn, recordWords, wordsIn}
+use Rattle.text_meaning.specs.Mluc.{Fault, header, string, RecordsEnd, whole, stopped, recordsAsked, recordsIn, textRecordWords, wordsIn}
 use Rattle.text_meaning.specs.declared.TextAnswer.{TextAnswer}
 
 -- `text`: the bytes up to the tag's end
@@ -40,7 +40,7 @@ faulty header = refused 2
 faulty string = absent
 
 unfoldable pub slottedOf : ℕ → ℕ → Answer
-slottedOf n words = cond (ltb (words / recordWords) n) (refused 14) (mluc n)
+slottedOf n words = cond (ltb (words / textRecordWords) n) (refused 14) (mluc n)
 
 abbrev pub endedBy : RecordsEnd → Answer → Answer
 endedBy whole a = a
@@ -57,21 +57,18 @@ byType t words =
     cond (eqb (u32At t 0) (signatureOf Desc)) (descOf t) (
     absent)))
 
-abbrev pub tagOf : List ℕ → ℕ → ℕ → List ℕ
-tagOf profile entry size = tagAt profile entry (countedSize size)
-
 -- the tag of a profile, with so many words lent
 unfoldable pub stringOf : List ℕ → ℕ → ℕ → ℕ → Answer
 stringOf profile entry size words =
     cond (ltb (countedSize size) 4) absent (
     cond (ltb (length profile) (entry + countedSize size)) (refused 1) (
     cond (ltb (countedSize size) 8) absent (
-    byType (tagOf profile entry size) words)))
+    byType (countedTag profile entry size) words)))
 
 -- what such a call leaves of the lent slots
 abbrev pub slotsAfter : List ℕ → ℕ → ℕ → List ℕ → List ℕ
 slotsAfter profile entry size slots =
-    slotsWith (stringOf profile entry size (length slots)) (wordsIn (recordsIn (tagOf profile entry size) .records)) slots
+    slotsWith (stringOf profile entry size (length slots)) (wordsIn (recordsIn (countedTag profile entry size) .records)) slots
 
 -- what a call answers, and what it leaves of the lent slots
 pub record AnswerAndSlots (t : List ℕ) (answer : Answer) (r : TextAnswer) (before after : List ℕ) : Type 0 where

@@ -8,7 +8,7 @@ use lib.ListN.{length, drop}
 use borrow.Author.Tests.{lt-ltb, le-ltb}
 use Rattle.fields.specs.declared.Refusal.{Refusal}
 use Rattle.text_meaning.specs.Answer.{mluc, refused, inNumbers, slotsWith}
-use Rattle.text_meaning.specs.Mluc.{whole, recordsFrom, recordsAsked, recordsIn, recordWords, wordsIn}
+use Rattle.text_meaning.specs.Mluc.{whole, recordsFrom, recordsAsked, recordsIn, textRecordWords, wordsIn}
 use Rattle.text_meaning.specs.Text.{AnswerAndSlots, faulty, slottedOf, mlucOf}
 use Rattle.text_meaning.specs.declared.TextAnswer.{TextAnswer}
 use Rattle.text_meaning.proofs.Shared.{leaving, same, words-length, whole-count}
@@ -25,16 +25,16 @@ fault-leaves s CodeFault.Header ws = refl
 fault-leaves s CodeFault.String ws = refl
 
 module _ (t s : List ℕ) (n : ℕ) where
-  pub slots-few : length s / recordWords < n → AnswerAndSlots t (slottedOf n (length s)) (TextAnswer.Refused Refusal.TooFewSlots) s s
+  pub slots-few : length s / textRecordWords < n → AnswerAndSlots t (slottedOf n (length s)) (TextAnswer.Refused Refusal.TooFewSlots) s s
   unfolding slottedOf
   slots-few l = leaving t s _ _ (refused 14) (λ ws. refl) (rw (lt-ltb _ _ l)) refl
 
-  pub slots-enough : n ≤ length s / recordWords → n ≡ recordsAsked t → recordsFrom t 0 n .end ≡ whole → (s' : List ℕ) → s' ≡ wordsIn (recordsFrom t 0 n .records) ++ drop (n * recordWords) s → AnswerAndSlots t (slottedOf n (length s)) (TextAnswer.Mluc n) s s'
+  pub slots-enough : n ≤ length s / textRecordWords → n ≡ recordsAsked t → recordsFrom t 0 n .end ≡ whole → (s' : List ℕ) → s' ≡ wordsIn (recordsFrom t 0 n .records) ++ drop (n * textRecordWords) s → AnswerAndSlots t (slottedOf n (length s)) (TextAnswer.Mluc n) s s'
   unfolding slottedOf recordsIn
   slots-enough l e g s' h =
       let enough : slottedOf n (length s) ≡ mluc n = rw (le-ltb _ _ l) in
       let all : List ℕ = wordsIn (recordsFrom t 0 n .records) in
-      let long : length all ≡ n * recordWords = words-length (recordsFrom t 0 n .records) ∙ ap (λ (i : ℕ). i * recordWords) (whole-count t 0 n g) in
+      let long : length all ≡ n * textRecordWords = words-length (recordsFrom t 0 n .records) ∙ ap (λ (i : ℕ). i * textRecordWords) (whole-count t 0 n g) in
       record { answer-is = sym enough; slots-are = rw (enough, ← e, long) h }
 
 module _ (t s : List ℕ) (n : ℕ) (e : n ≡ recordsAsked t) (v : Verdict) (j : endFrom v ≡ recordsFrom t 0 n .end) where

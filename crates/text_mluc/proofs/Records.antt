@@ -17,7 +17,7 @@ use Rattle.fields.specs.Bytes.{u16At, u32At}
 use Rattle.fields.proofs.Stores.{sets-append}
 use Rattle.text_mluc.specs.Items.{recordFrom, faultFrom, seenFrom}
 use Rattle.text_meaning.specs.Layout.{headerEnd, stringEnd}
-use Rattle.text_meaning.specs.Mluc.{Localized, Fault, header, string, is, no, whole, stopped, RecordsRead, stops, first, even, localizedAt, recordAt, recordsFrom, recordsAsked, recordWords, wordsOf, wordsIn}
+use Rattle.text_meaning.specs.Mluc.{PlacedString, Fault, header, string, is, no, whole, stopped, RecordsRead, stops, first, even, localizedAt, recordAt, recordsFrom, recordsAsked, textRecordWords, placedWords, wordsIn}
 use Rattle.text_mluc.specs.declared.Fault.{Fault as CodeFault}
 use Rattle.text_mluc.specs.declared.Item.{Item}
 use Rattle.text_mluc.specs.declared.TextRecord.{TextRecord}
@@ -47,7 +47,7 @@ pub ruleset record-laws = (record-header, record-string, record-there)
 one-less : (n k : ℕ) → k < n → n - k ≡ suc (n - (k + 1))
 one-less n k l = omega arith
 
-pub records-turn : (t : List ℕ) (k n : ℕ) (r : Localized) → recordAt t k ≡ is r → recordsFrom t k (suc n) ≡ first r (recordsFrom t (k + 1) n)
+pub records-turn : (t : List ℕ) (k n : ℕ) (r : PlacedString) → recordAt t k ≡ is r → recordsFrom t k (suc n) ≡ first r (recordsFrom t (k + 1) n)
 unfolding recordsFrom
 records-turn t k n r e = rw e
 
@@ -58,7 +58,7 @@ records-stop t k n f e = rw e
 -- ---- the loop that judges
 
 -- a record that is seen has its header in the tag
-header-inside : (t : List ℕ) (k : ℕ) (r : Localized) → recordAt t k ≡ is r → headerEnd k ≤ length t
+header-inside : (t : List ℕ) (k : ℕ) (r : PlacedString) → recordAt t k ≡ is r → headerEnd k ≤ length t
 unfolding recordAt
 header-inside t k r = by (ltb (length t) (headerEnd k)) refl
   where
@@ -105,25 +105,25 @@ module _ (t : List ℕ) (n : ℕ) (s₀ : List ℕ) where
     pub within : k ≤ n
     pub long : length s ≡ length s₀
     pub good : recordsFrom t k (n - k) .end ≡ whole
-    pub left : sets s (k * recordWords) (wordsIn (recordsFrom t k (n - k) .records)) ≡ sets s₀ 0 (wordsIn (recordsFrom t 0 n .records))
+    pub left : sets s (k * textRecordWords) (wordsIn (recordsFrom t k (n - k) .records)) ≡ sets s₀ 0 (wordsIn (recordsFrom t 0 n .records))
 
   pub write-begins : recordsFrom t 0 n .end ≡ whole → Writing s₀ 0
   write-begins g = record { within = omega arith; long = refl; good = rw sub-zero g; left = rw sub-zero }
 
   module _ (s : List ℕ) (k : ℕ) (w : Writing s k) (l : k < n) (got : Item) (h : seenFrom got ≡ recordAt t k) where
-    pub write-turns : (r : TextRecord) (s' : List ℕ) → got ≡ Item.Record r → s' ≡ sets s (k * recordWords) (wordsOf (recordFrom r)) → Writing s' (k + 1)
+    pub write-turns : (r : TextRecord) (s' : List ℕ) → got ≡ Item.Record r → s' ≡ sets s (k * textRecordWords) (placedWords (recordFrom r)) → Writing s' (k + 1)
     unfolding wordsIn
     write-turns r s' e p =
-        let ws : List ℕ = wordsOf (recordFrom r) in
+        let ws : List ℕ = placedWords (recordFrom r) in
         let rest : RecordsRead = recordsFrom t (k + 1) (n - (k + 1)) in
         let turn : recordsFrom t k (n - k) ≡ first (recordFrom r) rest = ap (recordsFrom t k) (one-less n k l) ∙ records-turn t k (n - (k + 1)) (recordFrom r) (sym h ∙ ap seenFrom e) in
-        let next : (k + 1) * recordWords ≡ k * recordWords + length ws = omega arith in
+        let next : (k + 1) * textRecordWords ≡ k * textRecordWords + length ws = omega arith in
         let all : wordsIn (recordsFrom t k (n - k) .records) ≡ ws ++ wordsIn (rest .records) = ap (λ (x : RecordsRead). wordsIn (x .records)) turn in
         record {
           within = omega arith;
-          long = ap length p ∙ length-sets s (k * recordWords) ws ∙ w .long;
+          long = ap length p ∙ length-sets s (k * textRecordWords) ws ∙ w .long;
           good = sym (ap (λ (x : RecordsRead). x .end) turn) ∙ w .good;
-          left = ap (λ (y : List ℕ). sets y ((k + 1) * recordWords) (wordsIn (rest .records))) p ∙ rw (next, ← sets-append ws (wordsIn (rest .records)) s (k * recordWords), ← all) (w .left);
+          left = ap (λ (y : List ℕ). sets y ((k + 1) * textRecordWords) (wordsIn (rest .records))) p ∙ rw (next, ← sets-append ws (wordsIn (rest .records)) s (k * textRecordWords), ← all) (w .left);
         }
 
     -- no fault is met
@@ -138,11 +138,11 @@ module _ (t : List ℕ) (n : ℕ) (s₀ : List ℕ) where
             let f = rw (sym h ∙ ap seenFrom e) at g in
             never cc
 
-  pub write-ends : (s : List ℕ) (k : ℕ) → Writing s k → n ≤ k → n * recordWords ≤ length s₀ → recordsFrom t 0 n .end ≡ whole → s ≡ wordsIn (recordsFrom t 0 n .records) ++ drop (n * recordWords) s₀
+  pub write-ends : (s : List ℕ) (k : ℕ) → Writing s k → n ≤ k → n * textRecordWords ≤ length s₀ → recordsFrom t 0 n .end ≡ whole → s ≡ wordsIn (recordsFrom t 0 n .records) ++ drop (n * textRecordWords) s₀
   unfolding wordsIn recordsFrom
   write-ends s k w l room g =
       let all : List ℕ = wordsIn (recordsFrom t 0 n .records) in
-      let e : length all ≡ n * recordWords = words-length (recordsFrom t 0 n .records) ∙ ap (λ (i : ℕ). i * recordWords) (whole-count t 0 n g) in
+      let e : length all ≡ n * textRecordWords = words-length (recordsFrom t 0 n .records) ∙ ap (λ (i : ℕ). i * textRecordWords) (whole-count t 0 n g) in
       let z : n - k ≡ 0 = omega arith in
       let d : s ≡ sets s₀ 0 all = rw z at (w .left) in
       d ∙ sets-eq all s₀ 0 (omega arith) ∙ rw (zero-add, e)

@@ -7,10 +7,30 @@ ghost use mathlib.Core.List.{_++_};
 ghost use Prim.Native.Nat.{_+_, _*_, _≤_};
 ghost use lib.ListN.{length, drop};
 ghost use lib.Seq.{sets};
-ghost use Rattle.text_meaning.specs.Mluc.{whole, recordAt, recordsFrom, recordsAsked, recordWords, wordsOf, wordsIn};
+ghost use Rattle.text_meaning.specs.Mluc.{whole, recordAt, recordsFrom, recordsAsked, textRecordWords, placedWords, wordsIn};
 ghost use Rattle.text_meaning.specs.Answer.{inNumbers};
 ghost use Rattle.text_meaning.specs.Text.{AnswerAndSlots, faulty as faultyBy, slottedOf, mlucOf};
 ghost use Rattle.text_mluc.specs.Items.{recordFrom, faultFrom, seenFrom, endFrom};
+
+// multiLocalizedUnicodeType, 'mluc'
+//  8 to 11  number of records
+// 12 to 15  size of a record
+// 16 on     the records, 12 bytes each:
+//           0 to  1  language
+//           2 to  3  country
+//           4 to  7  length of the string, in bytes
+//           8 to 11  offset of the string in the tag
+const RECORD_COUNT: u64 = 8;
+
+const RECORDS: u64 = 16;
+
+const RECORD_SIZE: u64 = 12;
+
+const COUNTRY: u64 = 2;
+
+const STRING_LENGTH: u64 = 4;
+
+const STRING_OFFSET: u64 = 8;
 
 // The words of a record, and so of a slot.
 pub const TEXT_RECORD_WORDS: usize = 4;
@@ -43,17 +63,17 @@ pub(crate) enum Verdict {
 fn read_record(tag: &[u8], k: u32) -> Item
     ensures { λ r. ⌜ seenFrom r ≡ recordAt (now (tag .entry)) k ⌝ }
 {
-    let at = 16 + 12 * (k as u64);
-    if (tag.len() as u64) < at + 12 {
+    let at = RECORDS + RECORD_SIZE * (k as u64);
+    if (tag.len() as u64) < at + RECORD_SIZE {
         return Item::No(Fault::Header);
     }
-    let length = fields::u32_at(tag, InTag(at + 4));
-    let start = fields::u32_at(tag, InTag(at + 8));
+    let length = fields::u32_at(tag, InTag(at + STRING_LENGTH));
+    let start = fields::u32_at(tag, InTag(at + STRING_OFFSET));
     if (tag.len() as u64) < start as u64 + length as u64 {
         return Item::No(Fault::String);
     }
     let language = fields::u16_at(tag, InTag(at));
-    let country = fields::u16_at(tag, InTag(at + 2));
+    let country = fields::u16_at(tag, InTag(at + COUNTRY));
     Item::Record(TextRecord {
         language: language as u32,
         country: country as u32,
@@ -82,8 +102,8 @@ fn check_records(tag: &[u8], n: u32) -> Verdict
 
 // Writes a record's words from a word on.
 fn put(slots: &mut [u32], at: usize, r: TextRecord)
-    requires { ⌜ at + recordWords ≤ length (now slots) ⌝ }
-    ensures { λ _. ⌜ now (slots .exit) ≡ sets (now (slots .entry)) at (wordsOf (recordFrom r)) ⌝ }
+    requires { ⌜ at + textRecordWords ≤ length (now slots) ⌝ }
+    ensures { λ _. ⌜ now (slots .exit) ≡ sets (now (slots .entry)) at (placedWords (recordFrom r)) ⌝ }
 {
     slots[at] = r.language;
     slots[at + 1] = r.country;
@@ -93,8 +113,8 @@ fn put(slots: &mut [u32], at: usize, r: TextRecord)
 
 // Writes n records that were judged whole, from the first slot on.
 fn write_records(tag: &[u8], n: u32, slots: &mut [u32])
-    requires { ⌜ (recordsFrom (now tag) 0 n .end ≡ whole) × (n * recordWords ≤ length (now slots)) ⌝ }
-    ensures { λ _. ⌜ now (slots .exit) ≡ wordsIn (recordsFrom (now (tag .entry)) 0 n .records) ++ drop (n * recordWords) (now (slots .entry)) ⌝ }
+    requires { ⌜ (recordsFrom (now tag) 0 n .end ≡ whole) × (n * textRecordWords ≤ length (now slots)) ⌝ }
+    ensures { λ _. ⌜ now (slots .exit) ≡ wordsIn (recordsFrom (now (tag .entry)) 0 n .records) ++ drop (n * textRecordWords) (now (slots .entry)) ⌝ }
 {
     let mut k: u32 = 0;
     while k < n {
@@ -111,7 +131,7 @@ fn write_records(tag: &[u8], n: u32, slots: &mut [u32])
 fn records_asked(tag: &[u8]) -> u32
     ensures { λ r. ⌜ r ≡ recordsAsked (now (tag .entry)) ⌝ }
 {
-    let n = fields::u32_at(tag, InTag(8));
+    let n = fields::u32_at(tag, InTag(RECORD_COUNT));
     if n == 0 { 1 } else { n }
 }
 

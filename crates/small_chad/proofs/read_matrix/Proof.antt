@@ -1,4 +1,4 @@
--- `small_chad::read_matrix` meets its contract: each way out is a law of `matrixOf`.
+-- `small_chad::read_matrix` meets its contract: each way out is a law of `chadMatrixOf`.
 -- Assumes nothing.
 use Rattle.fields.specs.Tag.{signatureOf}
 use Rattle.small_chad.proofs.Laws.{matrix-laws}

@@ -9,6 +9,7 @@ pub read-desc-spec : {M : Type 1} → statement M
 read-desc-spec =
     tie.close
     (tie.spec
+    (λ c. search needs)
     (λ c. search (needs, desc-laws))
     (λ c κs. search needs)
     (λ c. search needs)

@@ -18,6 +18,7 @@ read-date-time-tag-spec =
     (λ c. search needs)
     (λ c. search needs)
     (λ c. search needs)
+    (λ c. search needs)
     (λ c. sym (length-take-le 20 (c .before .before .before .before .before .args .profile .now) (search (needs, covers))))
     (λ c κs. search needs)
     (λ c. search (needs, answer-laws))

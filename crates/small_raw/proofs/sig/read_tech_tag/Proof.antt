@@ -2,14 +2,13 @@
 -- Assumes nothing.
 use Rattle.fields.specs.Tag.{signatureOf}
 use Rattle.small_meaning.specs.Layout.{signatureIn}
-use Rattle.small_raw.proofs.Laws.{one-is}
 use Rattle.small_meaning.proofs.Order.{answer-laws, answer-fields, starts, ends}
 use borrow.Author.Needs.{needs}
 use Rattle.small_raw.proofs.sig.read_tech_tag.Statement.{statement}
 use Rattle.small_raw.proofs.sig.read_tech_tag.Tie as tie
 
 pub read-tech-tag-spec : {M : Type 1} → statement M
-unfolding signatureOf
+unfolding signatureOf signatureIn
 read-tech-tag-spec =
     tie.close
     (tie.spec
@@ -25,4 +24,4 @@ read-tech-tag-spec =
     (λ c. search (needs, answer-laws))
     (λ c. search (needs, answer-laws))
     (λ c. search (needs, answer-laws))
-    (λ c. search (needs, answer-fields signatureIn, one-is)))
+    (λ c. search (needs, answer-fields signatureIn)))

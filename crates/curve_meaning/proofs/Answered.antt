@@ -1,40 +1,33 @@
--- What the answer of a curve reader tells of the curve.
+-- What stands behind the answer of a curve reader, and behind a step.
 -- Assumes nothing.
 use Prim.Native.Nat.{ℕ}
-use native.Mathlib.Omega.{arith}
 use mathlib.Core.Path.{_≡_, refl}
 use mathlib.Core.List.{List}
 use Rattle.fields.proofs.Never.{never}
 use Rattle.fields.specs.Checked.{Checked, good, bad}
-use Rattle.curve_meaning.specs.Answer.{value, absent, refused, answerOf, stepChecked}
+use Rattle.curve_meaning.specs.Answer.{value, absent, answerOf, stepChecked}
 use Rattle.curve_meaning.specs.Shape.{Shape, stepOf, wordsOf}
 use Rattle.curve_meaning.specs.declared.Walk.{Walk}
 
 -- a value comes of a curve
-pub record Told (walk : Walk) (start : ℕ) (x : Checked Shape) (ws : List ℕ) (consumed : ℕ) : Type 0 where
+pub record FromCurve (walk : Walk) (start : ℕ) (x : Checked Shape) (ws : List ℕ) (consumed : ℕ) : Type 0 where
   pub shape : Shape
   pub seen : x ≡ good shape
   pub record-is : ws ≡ wordsOf start shape
   pub step-is : consumed ≡ stepOf walk shape
 
-pub told : (walk : Walk) (start : ℕ) (x : Checked Shape) {ws : List ℕ} {consumed : ℕ} → value ws consumed ≡ answerOf walk start x → Told walk start x ws consumed
+pub from-curve : (walk : Walk) (start : ℕ) (x : Checked Shape) {ws : List ℕ} {consumed : ℕ} → value ws consumed ≡ answerOf walk start x → FromCurve walk start x ws consumed
 unfolding answerOf
-told walk start (good s) h = record { shape = s; seen = refl; record-is = cc; step-is = cc }
-told walk start (bad n) h = never cc
-
--- a refusal comes of one
-pub told-no : (walk : Walk) (start : ℕ) (x : Checked Shape) {n : ℕ} → refused n ≡ answerOf walk start x → x ≡ bad n
-unfolding answerOf
-told-no walk start (good s) h = never cc
-told-no walk start (bad m) {n} h = let e : n ≡ m = cc in cc
+from-curve walk start (good s) h = record { shape = s; seen = refl; record-is = cc; step-is = cc }
+from-curve walk start (bad n) h = never cc
 
 -- and there is no absence
-pub told-present : (walk : Walk) (start : ℕ) (x : Checked Shape) → absent ≡ answerOf walk start x → ⊥
+pub never-absent : (walk : Walk) (start : ℕ) (x : Checked Shape) → absent ≡ answerOf walk start x → ⊥
 unfolding answerOf
-told-present walk start (good s) h = never cc
-told-present walk start (bad m) h = never cc
+never-absent walk start (good s) h = never cc
+never-absent walk start (bad m) h = never cc
 
--- ---- what a step tells
+-- ---- a step
 
 -- a walk that goes on comes of a curve
 pub record Stepped (walk : Walk) (x : Checked Shape) (m : ℕ) : Type 0 where
