@@ -1,6 +1,6 @@
--- `lut::abm::find_runs` meets its contract: the offsets and the numbers of curves are the plan.
+-- `lut::abm::find_runs` meets its contract: the offsets and the numbers of curves are those of the tag.
 -- Assumes nothing.
-use Rattle.lut.proofs.PartLaws.{planned}
+use Rattle.lut.proofs.PartLaws.{runs-found}
 use borrow.Author.Needs.{needs}
 use Rattle.lut.proofs.abm.find_runs.Statement.{statement}
 use Rattle.lut.proofs.abm.find_runs.Tie as tie
@@ -18,4 +18,4 @@ find-runs-spec =
     (λ c κs. search needs)
     (λ c. search needs)
     (λ c κs. search needs)
-    (λ c. search (needs, planned)))
+    (λ c. search (needs, runs-found)))
