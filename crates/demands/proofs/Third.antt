@@ -171,9 +171,9 @@ fourteen (small s) c h = absurd (small-not-14 s (c .profile) (c .entry) (c .size
 -- ---- the slots
 
 -- of a value every word is left as before, and those lent besides stay
-lut-slots : (walk : Walk) (c : Call) (q : List ℕ) (entries points : ℕ) (x : List ℕ) → c .entries ≤ entries → c .points ≤ points → outcome (lut walk) (meaning (lut walk) c) ≡ value → slotsAfter (lut walk) (withAll q entries points x c) ≡ slotsAfter (lut walk) c ++ x
+lut-slots-stay : (walk : Walk) (c : Call) (q : List ℕ) (entries points : ℕ) (x : List ℕ) → c .entries ≤ entries → c .points ≤ points → outcome (lut walk) (meaning (lut walk) c) ≡ value → slotsAfter (lut walk) (withAll q entries points x c) ≡ slotsAfter (lut walk) c ++ x
 unfolding IsValue
-lut-slots walk c q entries points x h k v =
+lut-slots-stay walk c q entries points x h k v =
     lut-stays walk (c .entries) entries h (c .points) points k (c .profile) q (c .entry) (c .size) (c .slots) x (by (meaning (lut walk) c .state) v) .slots-stay
   where
     by : (s : State) → lutOutcome s ≡ value → IsValue s
@@ -189,8 +189,8 @@ is-value (Text·Answer.mluc n) e = tt
 is-value Text·Answer.absent e = never cc
 is-value (Text·Answer.refused n) e = never cc
 
-text-slots : (c : Call) (q x : List ℕ) → outcome string (meaning string c) ≡ value → slotsAfter string (withSlots x (withBytes q c)) ≡ slotsAfter string c ++ x
-text-slots c q x v =
+text-slots-stay : (c : Call) (q x : List ℕ) → outcome string (meaning string c) ≡ value → slotsAfter string (withSlots x (withBytes q c)) ≡ slotsAfter string c ++ x
+text-slots-stay c q x v =
     let h = text-stays (c .profile) q (c .entry) (c .size) (length (c .slots)) (length (c .slots ++ x)) (more-room (c .slots) x) (is-value (meaning string c) v) in
     rw (h .answer-stays, h .records-stay) (by (meaning string c) refl)
   where
@@ -206,9 +206,9 @@ text-slots c q x v =
     by (Text·Answer.refused n) e = refl
 
 slots-grow : (r : Reader) (c : Call) (q : List ℕ) (entries points : ℕ) (x : List ℕ) → c .entries ≤ entries → c .points ≤ points → outcome r (meaning r c) ≡ value → slotsAfter r (withAll q entries points x c) ≡ slotsAfter r c ++ x
-slots-grow (lut walk) c q entries points x h k v = lut-slots walk c q entries points x h k v
+slots-grow (lut walk) c q entries points x h k v = lut-slots-stay walk c q entries points x h k v
 slots-grow (trc walk) c q entries points x h k v = refl
-slots-grow string c q entries points x h k v = text-slots c q x v
+slots-grow string c q entries points x h k v = text-slots-stay c q x v
 slots-grow (small s) c q entries points x h k v = refl
 
 -- where the same is said, the slots are left the same: a value's as above, and all others as they were lent

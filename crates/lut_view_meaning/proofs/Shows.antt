@@ -16,7 +16,7 @@ use Rattle.fields.specs.Checked.{good}
 use Rattle.fields.specs.Bytes.{bytesAt}
 use Rattle.fields.proofs.Words.{bytes-part}
 use Rattle.lut_clut_meaning.specs.Clut.{clutOf}
-use Rattle.lut_clut_meaning.specs.Table.{Table, lengthOf, inGrid, pointOf, entryNumber}
+use Rattle.lut_clut_meaning.specs.Table.{Table, inGrid, pointOf, entryNumber}
 use Rattle.lut_clut_meaning.proofs.Laid.{Accepted, accepted}
 use Rattle.curve_meaning.specs.declared.Walk.{Walk}
 use Rattle.lut_mft_meaning.specs.Answer.{Fields, fieldsOf, toldTable as Mft·toldTable}
