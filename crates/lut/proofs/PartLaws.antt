@@ -62,23 +62,12 @@ module _ (offset n : ℕ) where
   unfolding present
   some-few e l = record { is = sym (rw (ne-eqb offset 0 e)); few = l }
 
-module _ (t : List ℕ) (offset channels r : ℕ) (few : Few (present offset channels) r) where
-  pub a-few : offset ≡ aOffset t → channels ≡ deviceChannels t → Few (aCurves t) r
-  unfolding aCurves
-  a-few e f = rw (← e, ← f) few
+pub ruleset few-laws = (none-few, some-few)
 
-  pub m-few : offset ≡ mOffset t → channels ≡ spaceChannels t → Few (mCurves t) r
-  unfolding mCurves
-  m-few e f = rw (← e, ← f) few
-
-  pub b-few : offset ≡ bOffset t → channels ≡ spaceChannels t → Few (bCurves t) r
-  unfolding bCurves
-  b-few e f = rw (← e, ← f) few
-
-pub ruleset few-laws = (none-few, some-few, a-few, m-few, b-few)
-
-pub runs-found : (t : List ℕ) (p : Runs) → p .a .0 ≡ aOffset t → Few (aCurves t) (p .na) → p .m .0 ≡ mOffset t → Few (mCurves t) (p .nm) → p .b .0 ≡ bOffset t → Few (bCurves t) (p .nb) → RunsOf t p
-runs-found t p ea fa em fm eb fb = record { a-at = ea; m-at = em; b-at = eb; a-curves = fa; m-curves = fm; b-curves = fb }
+pub runs-found : (t : List ℕ) (p : Runs) (device space : ℕ) → device ≡ deviceChannels t → space ≡ spaceChannels t → p .a .0 ≡ aOffset t → Few (present (p .a .0) device) (p .na) → p .m .0 ≡ mOffset t → Few (present (p .m .0) space) (p .nm) → p .b .0 ≡ bOffset t → Few (present (p .b .0) space) (p .nb) → RunsOf t p
+unfolding aCurves mCurves bCurves
+runs-found t p device space ed es ea fa em fm eb fb =
+    record { a-at = ea; m-at = em; b-at = eb; a-curves = rw (← ea, ← ed) fa; m-curves = rw (← em, ← es) fm; b-curves = rw (← eb, ← es) fb }
 
 -- ---- the matrix
 

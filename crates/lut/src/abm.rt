@@ -40,7 +40,7 @@ ghost use Rattle.lut_meaning.specs.Abm.{valueOf, abmOf};
 ghost use Rattle.lut_meaning.specs.Lut.{AnswerAndSlots};
 ghost use Rattle.lut_meaning.specs.Parts.{matrixChecked, tableIn, colourTableOf, RunsWhole, curvesOf};
 ghost use Rattle.lut_meaning.specs.Answer.{inNumbers};
-ghost use Rattle.lut_meaning.specs.Layout.{toPcs, inputs, outputs, deviceChannels, spaceChannels, present, aCurves, mCurves, bCurves, gridOf, matrixOf, biasOf};
+ghost use Rattle.lut_meaning.specs.Layout.{toPcs, inputs, outputs, deviceChannels, spaceChannels, present, gridOf, matrixOf, biasOf};
 ghost use Rattle.lut.specs.Passed.{Opened, TableGood};
 ghost use Rattle.lut.specs.Runs.{Few, RunsOf, runsChecked};
 ghost use Rattle.lut.specs.Verdict.{verdictInNumbers};
@@ -109,41 +109,22 @@ fn run_length(offset: u32, channels: u8) -> u32
     if offset == 0 { 0 } else { channels as u32 }
 }
 
-fn a_curves(tag: &[u8]) -> u32
-    ensures { λ r. ⌜ Few (aCurves (now (tag .entry))) r ⌝ }
-{
-    let offset = fields::u32_at(tag, A_OFFSET);
-    run_length(offset, device_channels(tag))
-}
-
-fn m_curves(tag: &[u8]) -> u32
-    ensures { λ r. ⌜ Few (mCurves (now (tag .entry))) r ⌝ }
-{
-    let offset = fields::u32_at(tag, M_OFFSET);
-    run_length(offset, space_channels(tag))
-}
-
-fn b_curves(tag: &[u8]) -> u32
-    ensures { λ r. ⌜ Few (bCurves (now (tag .entry))) r ⌝ }
-{
-    let offset = fields::u32_at(tag, B_OFFSET);
-    run_length(offset, space_channels(tag))
-}
-
-// Where the runs A, M and B start, and how many curves each has.
+// The runs of the tag.
 fn find_runs(tag: &[u8]) -> Runs
     ensures { λ r. ⌜ RunsOf (now (tag .entry)) r ⌝ }
 {
+    let device = device_channels(tag);
+    let space = space_channels(tag);
     let a = fields::u32_at(tag, A_OFFSET);
     let m = fields::u32_at(tag, M_OFFSET);
     let b = fields::u32_at(tag, B_OFFSET);
     Runs {
         a: InTag(a as u64),
-        na: a_curves(tag),
+        na: run_length(a, device),
         m: InTag(m as u64),
-        nm: m_curves(tag),
+        nm: run_length(m, space),
         b: InTag(b as u64),
-        nb: b_curves(tag),
+        nb: run_length(b, space),
     }
 }
 

@@ -1,4 +1,4 @@
--- `lut::abm::find_runs` meets its contract: the offsets and the numbers of curves are those of the tag.
+-- `lut::abm::find_runs` meets its contract: the offsets, and the channels of each side, tell the runs.
 -- Assumes nothing.
 use Rattle.lut.proofs.PartLaws.{runs-found}
 use borrow.Author.Needs.{needs}
@@ -9,6 +9,8 @@ pub find-runs-spec : {M : Type 1} → statement M
 find-runs-spec =
     tie.close
     (tie.spec
+    (λ c κs. search needs)
+    (λ c κs. search needs)
     (λ c κs. search needs)
     (λ c κs. search needs)
     (λ c κs. search needs)
