@@ -13,11 +13,11 @@ use Rattle.lut_run_meaning.specs.Run.{aligned, curveAtOffset as curveAt, runAt,
 use Rattle.lut_mft_meaning.specs.Answer.{fieldsOf, answerOf as mftAnswer}
 use Rattle.lut_mft_meaning.specs.Layout.{isWide, isMft, entrySize, tablesStart, entriesAt, colourTable}
 use Rattle.lut_mft_meaning.specs.Mft.{outside, badEntries, badChannels, badNumbers, tablesOf, numbersOf, mftOf}
-use Rattle.lut_meaning.specs.Abm.{colourTableOf, valueFrom, recordedOf, checkedOf, abmOf}
+use Rattle.lut_meaning.specs.Abm.{colourTableOf, abmOf, valueOf}
 use Rattle.lut_meaning.specs.Checks.{ended}
-use Rattle.lut_meaning.specs.Layout.{present, deviceChannels, spaceChannels, aCurves, mCurves, bCurves, planOf, recordsNeeded, gridOf, chadMatrixOf as abmMatrix, biasOf}
+use Rattle.lut_meaning.specs.Layout.{present, deviceChannels, spaceChannels, aCurves, mCurves, bCurves, recordsNeeded, gridOf, chadMatrixOf as abmMatrix, biasOf, matrixOf as abmMatrix}
 use Rattle.lut_meaning.specs.Lut.{byType, lutOf}
-use Rattle.lut_meaning.specs.Parts.{runsChecked, curvesOf, matrixChecked}
+use Rattle.lut_meaning.specs.Parts.{matrixChecked, tableIn, colourTableOf, ended, curvesOf}
 use Rattle.text_meaning.specs.Cut.{byteOf, unitOf, keptOf}
 use Rattle.text_meaning.specs.Mluc.{even, recordAt, recordsFrom, recordsAsked, recordsIn, wordsIn}
 use Rattle.text_meaning.specs.Text.{textOf, unicodeOf, descOf, slottedOf, mlucOf, byType as stringByType, stringOf}
@@ -35,5 +35,5 @@ use Rattle.answers_meaning.specs.Texts.{rangeText, stateText, stringText
 use Rattle.answers_meaning.specs.Words.{refusedText, mftWord, abmWord}
 
 pub claim : Each Holds cases
-unfolding Each Holds printed curveText curveAnswer trcOf curveOf curvOf paraOf divides parameterCount sizeOf stepOf wordsOf aligned curveAt runAt recordsOf abmOf checkedOf recordedOf valueFrom colourTableOf runsChecked curvesOf matrixChecked ended present deviceChannels spaceChannels aCurves mCurves bCurves planOf recordsNeeded gridOf abmMatrix biasOf stringOf stringByType textOf unicodeOf descOf slottedOf mlucOf recordsIn recordsAsked recordsFrom recordAt even wordsIn keptOf byteOf unitOf windowOf tripleOf signatureIn dateBytes measurement conditions firstXyz codePoints measured viewed rangeText stateText stringText lentText mftWord abmWord bytesAt recordText answerOf replyOf markedFrom tailOf plainOf smallText viewText entryText entryAt refusedText numerals numbers row numeral number decimal digitsOf foundOf answerTo chadOf chadMatrixOf nineNumbers lutOf byType isMft isWide mftOf numbersOf badNumbers badEntries badChannels outside tablesOf fieldsOf mftAnswer entrySize tablesStart entriesAt colourTable product entryOf entryFrom gridFrom inGrid pointOf wordsAt signatureOf
+unfolding Each Holds printed curveText curveAnswer trcOf curveOf curvOf paraOf divides parameterCount sizeOf stepOf wordsOf aligned curveAt runAt recordsOf abmOf valueOf tableIn colourTableOf curvesOf matrixChecked ended present deviceChannels spaceChannels aCurves mCurves bCurves recordsNeeded gridOf abmMatrix biasOf stringOf stringByType textOf unicodeOf descOf slottedOf mlucOf recordsIn recordsAsked recordsFrom recordAt even wordsIn keptOf byteOf unitOf windowOf tripleOf signatureIn dateBytes measurement conditions firstXyz codePoints measured viewed rangeText stateText stringText lentText mftWord abmWord bytesAt recordText answerOf replyOf markedFrom tailOf plainOf smallText viewText entryText entryAt refusedText numerals numbers row numeral number decimal digitsOf foundOf answerTo chadOf chadMatrixOf nineNumbers lutOf byType isMft isWide mftOf numbersOf badNumbers badEntries badChannels outside tablesOf fieldsOf mftAnswer entrySize tablesStart entriesAt colourTable product entryOf entryFrom gridFrom inGrid pointOf wordsAt signatureOf
 claim = (refl, (refl, (refl, (refl, (refl, (refl, (refl, (refl, (refl, (refl, (refl, (refl, (refl, (refl, (refl, (refl, (refl, (refl, (refl, (refl, (refl, (refl, tt))))))))))))))))))))))

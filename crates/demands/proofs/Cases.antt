@@ -14,11 +14,10 @@ use Rattle.curve_meaning.specs.Layout.{parameterCount}
 use Rattle.curve_meaning.specs.Shape.{sizeOf, stepOf, wordsOf}
 use Rattle.lut_mft_meaning.specs.Layout.{isWide, isMft}
 use Rattle.lut_run_meaning.specs.Run.{aligned, curveAtOffset, runAt, recordsOf}
-use Rattle.lut_meaning.specs.Abm.{colourTableOf, valueFrom, recordedOf, checkedOf, abmOf}
-use Rattle.lut_meaning.specs.Layout.{present, deviceChannels, spaceChannels, aCurves, mCurves, bCurves, planOf, recordsNeeded, gridOf, matrixOf, biasOf}
+use Rattle.lut_meaning.specs.Abm.{abmOf, valueOf}
+use Rattle.lut_meaning.specs.Layout.{present, deviceChannels, spaceChannels, aCurves, mCurves, bCurves, recordsNeeded, gridOf, matrixOf, biasOf}
 use Rattle.lut_meaning.specs.Lut.{byType, lutOf}
-use Rattle.lut_meaning.specs.Parts.{runsChecked, curvesOf, matrixChecked}
-use Rattle.lut_meaning.specs.Checks.{ended}
+use Rattle.lut_meaning.specs.Parts.{matrixChecked, tableIn, colourTableOf, ended, curvesOf}
 use Rattle.text_meaning.specs.Mluc.{even, recordAt, recordsFrom, recordsAsked, recordsIn, wordsIn}
 use Rattle.text_meaning.specs.Text.{slottedOf, mlucOf, byType as stringByType, stringOf}
 use Rattle.demands.specs.Cases.{Holds, bookAnswer, bookTwoSlots, cases}
@@ -29,10 +28,10 @@ pub record BookWalk : Type 0 where
   pub two-slots : Holds bookTwoSlots
 
 pub book-walk : BookWalk
-unfolding Holds lutOf byType isMft isWide abmOf checkedOf recordedOf valueFrom colourTableOf product runsChecked curvesOf matrixChecked ended present deviceChannels spaceChannels aCurves mCurves bCurves planOf recordsNeeded gridOf matrixOf biasOf bytesAt wordsAt runAt curveAtOffset aligned recordsOf curveOf curvOf paraOf divides parameterCount sizeOf stepOf wordsOf signatureOf
+unfolding Holds lutOf byType isMft isWide abmOf valueOf tableIn colourTableOf product curvesOf matrixChecked ended present deviceChannels spaceChannels aCurves mCurves bCurves recordsNeeded gridOf matrixOf biasOf bytesAt wordsAt runAt curveAtOffset aligned recordsOf curveOf curvOf paraOf divides parameterCount sizeOf stepOf wordsOf signatureOf
 book-walk = record { answer = refl; two-slots = (refl, refl) }
 
 pub claim : Each Holds cases
-unfolding Each Holds signedParameters numbersIn trcOf answerOf lutOf byType isMft isWide abmOf checkedOf recordedOf valueFrom colourTableOf clutOf shapeOf some partials product pointOf runsChecked curvesOf matrixChecked ended present deviceChannels spaceChannels aCurves mCurves bCurves planOf recordsNeeded gridOf matrixOf biasOf bytesAt wordsAt runAt curveAtOffset aligned recordsOf curveOf curvOf paraOf divides parameterCount sizeOf stepOf wordsOf stringOf stringByType slottedOf mlucOf recordsIn recordsAsked recordsFrom recordAt even wordsIn signatureOf
+unfolding Each Holds signedParameters numbersIn trcOf answerOf lutOf byType isMft isWide abmOf valueOf tableIn colourTableOf clutOf shapeOf some partials product pointOf curvesOf matrixChecked ended present deviceChannels spaceChannels aCurves mCurves bCurves recordsNeeded gridOf matrixOf biasOf bytesAt wordsAt runAt curveAtOffset aligned recordsOf curveOf curvOf paraOf divides parameterCount sizeOf stepOf wordsOf stringOf stringByType slottedOf mlucOf recordsIn recordsAsked recordsFrom recordAt even wordsIn signatureOf
 claim =
     (refl, (refl, ((refl, refl), ((refl, refl), ((refl, refl), (refl, (refl, ((refl, refl), ((refl, refl), (refl, (refl, (book-walk .answer, (refl, ((refl, refl), (book-walk .two-slots, (refl, ((refl, refl), ((refl, refl), (refl, (refl, tt))))))))))))))))))))

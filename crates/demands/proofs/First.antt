@@ -17,7 +17,6 @@ use Rattle.lut_run_meaning.specs.Run.{Placed, placed, CurveStands, recordsOf, d
 use Rattle.lut_run_meaning.proofs.Records.{words-end, record-at, each-at}
 use Rattle.lut_mft_meaning.specs.Answer.{Fields}
 use Rattle.lut_meaning.specs.Answer.{mft, abm, Abm, Answer as Lut·Answer}
-use Rattle.lut_meaning.specs.Layout.{planOf}
 use Rattle.lut_meaning.specs.Parts.{curvesOf}
 use Rattle.lut_meaning.proofs.Inside.{MatrixTold, GridTold, lut-inside, mft-inside as mft-in-tag}
 use Rattle.text_meaning.specs.Answer.{Answer as Text·Answer, slotsWith as Text·slotsWith}
@@ -87,7 +86,7 @@ module _ (l : Library) (p : Promised l) where
       let e = p .answers (lut walk) c in
       let s : meaning (lut walk) c .state ≡ abm f = ap (λ (a : Lut·Answer). a .state) (sym e) ∙ h in
       let i = lut-inside walk (c .entries) (c .points) (c .profile) (c .entry) (c .size) (length (c .slots)) f s in
-      let curves : List Placed = curvesOf walk (c .entries) (tag c) (planOf (tag c)) in
+      let curves : List Placed = curvesOf walk (c .entries) (tag c) in
       let recorded : (k : ℕ) → k < f .a + f .m + f .b → CurveInside (c .entries) (tag c) (recordIn (slotsAfter (lut walk) c) k) (curveAt walk c k) =
       λ k low.
       let few : k < length curves = omega (arith, low, i .curves-counted) in

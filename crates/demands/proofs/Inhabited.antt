@@ -1,12 +1,11 @@
 -- There is a library that keeps the contracts, that of specs/Kept.antt, so no demand holds for want of one. The result that stands for an answer
 -- has its numbers: a meaning refuses with numbers of refusals only, and its values have as many numbers as the code's.
 -- Assumes nothing.
-use Prim.Native.Nat.{ℕ, _+_, _*_, _/_}
+use Prim.Native.Nat.{ℕ, _+_, _/_}
 use mathlib.Core.Path.{_≡_, refl, ap, subst}
-use mathlib.Core.Bool.{not, _&&_, _||_}
 use mathlib.Core.List.{List}
-use lib.Dec.{ltb, leb, eqb}
-use lib.ListN.{length, drop}
+use lib.Dec.{ltb, eqb}
+use lib.ListN.{length}
 use Rattle.fields.specs.Checked.{Checked, good, bad}
 use Rattle.fields.specs.Bytes.{u32At, bytesAt, wordsAt}
 use Rattle.fields.specs.Place.{tagAt, countedSize, countedTag}
@@ -18,23 +17,20 @@ use Rattle.fields.proofs.Choice.{each}
 use Rattle.fields.proofs.Numbers.{nameOf}
 use Rattle.curve_meaning.specs.Answer.{Answer as Curve·Answer, answerOf, inNumbers as Curve·inNumbers}
 use Rattle.curve_meaning.specs.Curve.{trcOf, curveOf, tagOf as Curve·tagOf}
-use Rattle.curve_meaning.specs.Shape.{Shape, empty, table, para, recordWords, wordsOf}
+use Rattle.curve_meaning.specs.Shape.{Shape, empty, table, para, wordsOf}
 use Rattle.curve_meaning.specs.declared.Walk.{Walk}
 use Rattle.curve_meaning.proofs.Every.{curve-each, trc-each}
 use Rattle.curve_meaning.proofs.Unique.{resultFrom as Curve·resultFrom}
-use Rattle.lut_run_meaning.specs.Run.{curveAtOffset, runAt}
-use Rattle.lut_run_meaning.proofs.Runs.{run-induct}
-use Rattle.lut_clut_meaning.specs.Clut.{clutOf, shapeOf, gridAt, tableAt, overflows, mostEntries, some, isFlat}
-use Rattle.lut_clut_meaning.specs.Table.{Table, pointsOf, entriesOf, lengthOf, lastOf}
+use Rattle.lut_clut_meaning.proofs.Refuses.{Only}
 use Rattle.lut_mft_meaning.specs.Answer.{State as Mft·State, answerOf as Mft·answerOf}
-use Rattle.lut_mft_meaning.specs.Layout.{isMft, tablesStart, tablesEnd, colourTable}
-use Rattle.lut_mft_meaning.specs.Mft.{mftOf, numbersOf, tablesOf, badNumbers}
-use Rattle.lut_meaning.specs.Abm.{abmOf, withTable, checkedOf, recordedOf, valueFrom, colourTableOf as clutIn}
-use Rattle.lut_meaning.specs.Answer.{State, Answer as Lut·Answer, stateFrom, inNumbers as Lut·inNumbers, mftState, orRefused}
-use Rattle.lut_meaning.specs.Checks.{ended, andThen}
-use Rattle.lut_meaning.specs.Layout.{inputs, outputs, clutOffset, matrixOffset, planOf, recordsNeeded}
+use Rattle.lut_mft_meaning.specs.Layout.{isMft, shortest}
+use Rattle.lut_mft_meaning.specs.Mft.{mftOf}
+use Rattle.lut_mft_meaning.proofs.Refuses.{mft-refuses}
+use Rattle.lut_meaning.specs.Abm.{valueOf, abmOf}
+use Rattle.lut_meaning.specs.Answer.{State, Answer as Lut·Answer, stateFrom, inNumbers as Lut·inNumbers, mftState}
 use Rattle.lut_meaning.specs.Lut.{lutOf, byType as Lut·byType, isAbm, tagOf as Lut·tagOf}
-use Rattle.lut_meaning.specs.Parts.{runsChecked, matrixChecked}
+use Rattle.lut_meaning.proofs.Found.{ways-out}
+use Rattle.lut_meaning.proofs.Refuses.{part-refuses}
 use Rattle.lut_meaning.proofs.Unique.{answerTo, lutTo}
 use Rattle.text_meaning.specs.Answer.{Answer as Text·Answer, inNumbers as Text·inNumbers}
 use Rattle.text_meaning.specs.Layout.{asciiEnd}
@@ -59,11 +55,6 @@ use Rattle.demands.proofs.Third.{demand3}
 abbrev Known : ℕ → Type 0
 Known n = refusalNumber (nameOf n) ≡ n
 
--- what is checked is good, or refused with such a number
-CheckedKnown : {A : Type 0} → Checked A → Type 0
-CheckedKnown (good a) = Unit
-CheckedKnown (bad n) = Known n
-
 -- ---- the small readers
 
 -- the result of an answer has its numbers
@@ -84,21 +75,21 @@ small-shown cicp p at size = order-each (Shown cicp) _ refl refl refl refl
 -- ---- the tone curve
 
 -- what is seen is a curve, or refused with a known number
-CheckedKnown : Checked Shape → Type 0
-CheckedKnown (good s) = Unit
-CheckedKnown (bad n) = Known n
+CurveKnown : Checked Shape → Type 0
+CurveKnown (good s) = Unit
+CurveKnown (bad n) = Known n
 
-curve-known : (limit : ℕ) (t : List ℕ) → CheckedKnown (curveOf limit t)
-unfolding CheckedKnown
-curve-known = curve-each CheckedKnown (λ _. tt) refl refl refl refl refl
+curve-known : (limit : ℕ) (t : List ℕ) → CurveKnown (curveOf limit t)
+unfolding CurveKnown
+curve-known = curve-each CurveKnown (λ _. tt) refl refl refl refl refl
 
 trc-shown : (walk : Walk) (limit : ℕ) (p : List ℕ) (at size : ℕ) → Curve·inNumbers (Curve·resultFrom (trcOf walk limit p at size)) ≡ trcOf walk limit p at size
-unfolding CheckedKnown answerOf wordsOf
+unfolding CurveKnown answerOf wordsOf
 trc-shown walk limit p at size =
     let t = Curve·tagOf p at size in
     trc-each (λ a. Curve·inNumbers (Curve·resultFrom a) ≡ a) refl refl walk limit p at size (by (curveOf limit t) (curve-known limit t))
   where
-    by : (x : Checked Shape) → CheckedKnown x → Curve·inNumbers (Curve·resultFrom (answerOf walk tagSize x)) ≡ answerOf walk tagSize x
+    by : (x : Checked Shape) → CurveKnown x → Curve·inNumbers (Curve·resultFrom (answerOf walk tagSize x)) ≡ answerOf walk tagSize x
     by (good empty) k = refl
     by (good (table n)) k = refl
     by (good (para type ps)) k = refl
@@ -113,79 +104,30 @@ Stands s = stateFrom (answerTo s) ≡ s
 abbrev StandsOf : Lut·Answer → Type 0
 StandsOf a = Stands (a .state)
 
-refused-known : (A : Type 0) (n : ℕ) → CheckedKnown {A = A} (bad n) → Stands (State.refused n)
-unfolding CheckedKnown Stands
-refused-known A n k = ap State.refused k
-
-or-refused : (j : Checked Unit) (a : Lut·Answer) → CheckedKnown j → StandsOf a → StandsOf (orRefused j a)
-unfolding Stands
-or-refused (good _) a k h = h
-or-refused (bad n) a k h = refused-known Unit n k
-
-both : (i j : Checked Unit) → CheckedKnown i → CheckedKnown j → CheckedKnown (andThen i j)
-unfolding CheckedKnown
-both (good _) j a b = b
-both (bad n) j a b = a
-
-entry-known : (limit : ℕ) (t : List ℕ) (at : ℕ) → CheckedKnown (curveAtOffset limit t at)
-unfolding CheckedKnown curveAtOffset
-entry-known limit t at = each CheckedKnown (ltb (length t) (at + 12)) _ _ (λ _. refl) (λ _. curve-known limit (drop at t))
-
-run-known : (walk : Walk) (limit : ℕ) (t : List ℕ) (n at : ℕ) → CheckedKnown (ended (runAt walk limit t at n .end))
-unfolding CheckedKnown ended
-run-known walk limit t =
-    run-induct walk limit t (λ at n r. CheckedKnown (ended (r .end))) (λ at. tt) (λ at n m e. subst CheckedKnown e (entry-known limit t at)) (λ at n s e ih. ih)
-
-matrix-known : (t : List ℕ) → CheckedKnown (matrixChecked t)
-unfolding CheckedKnown matrixChecked
-matrix-known t =
-    each CheckedKnown (eqb (matrixOffset t) 0) _ _ (λ _. tt) (λ _. each CheckedKnown (ltb (length t) (matrixOffset t + 48)) _ _ (λ _. refl) (λ _. tt))
-
-clut-known : (t : List ℕ) → CheckedKnown (clutIn t)
-unfolding CheckedKnown clutIn clutOf shapeOf
-clut-known t =
-    let P = CheckedKnown {A = Table} in
-    let x = tableAt t (clutOffset t) (gridAt t (clutOffset t) (inputs t)) (outputs t) in
-    each P (eqb (clutOffset t) 0) _ _ (λ _. tt)
-    (λ _. each P (ltb (length t) (x .start)) _ _ (λ _. refl)
-    (λ _. each P (overflows (x .grid) (outputs t)) _ _ (λ _. refl)
-    (λ _. each P (eqb (entriesOf x) 0) _ _ (λ _. refl)
-    (λ _. each P (ltb mostEntries (entriesOf x)) _ _ (λ _. refl)
-    (λ _. each P (some isFlat (x .grid)) _ _ (λ _. refl)
-    (λ _. each P (leb (entriesOf x) (lastOf (x .grid) * x .outputs)) _ _ (λ _. refl)
-    (λ _. each P (ltb (x .size) 1 || ltb 2 (x .size)) _ _ (λ _. refl)
-    (λ _. each P (ltb (length t) (x .start + lengthOf x)) _ _ (λ _. refl) (λ _. tt)))))))))
+curve-numbers : (limit : ℕ) (t : List ℕ) → Only Known (curveOf limit t)
+unfolding CurveKnown
+curve-numbers limit t n e = subst CurveKnown e (curve-known limit t)
 
 abm-stands : (walk : Walk) (limit : ℕ) (t : List ℕ) (words : ℕ) → StandsOf (abmOf walk limit t words)
-unfolding Stands abmOf checkedOf runsChecked recordedOf valueFrom
+unfolding Stands valueOf
 abm-stands walk limit t words =
-    each StandsOf (ltb 4 (inputs t) && ltb 4 (outputs t)) _ _ (λ _. refl)
-    (λ _. or-refused (matrixChecked t) _ (matrix-known t) (by (clutIn t) (clut-known t)))
-  where
-    by : (x : Checked Table) → CheckedKnown x → StandsOf (withTable walk limit t words x)
-    by (good x) k =
-        or-refused (runsChecked walk limit t (planOf t)) _
-        (both _ _ (run-known walk limit t _ _) (both _ _ (run-known walk limit t _ _) (run-known walk limit t _ _)))
-        (each StandsOf (ltb (words / recordWords) (recordsNeeded t)) _ _ (λ _. refl) (λ _. refl))
-    by (bad n) k = refused-known Table n k
+    ways-out walk limit t words StandsOf refl
+    (λ n r. ap State.refused (part-refuses Known refl refl refl refl refl refl refl limit t (curve-numbers limit) walk n r)) (λ _ _. refl) (λ _ _. refl)
 
 mft-stands : (points : ℕ) (t : List ℕ) → Stands (mftState (Mft·answerOf t (mftOf points t) .state))
-unfolding Stands Mft·answerOf mftOf numbersOf tablesOf
-mft-stands points t =
-    let P : Mft·State → Type 0 = λ s. Stands (mftState (Mft·answerOf t s .state)) in
-    each P (ltb (length t) 48) _ _ (λ _. refl)
-    (λ _. each P (not (isMft t)) _ _ (λ _. refl)
-    (λ _. each P (ltb (length t) (tablesStart t)) _ _ (λ _. refl)
-    (λ _. each P (badNumbers t) _ _ (λ _. refl)
-    (λ _. each P (ltb points (pointsOf (colourTable t))) _ _ (λ _. refl)
-    (λ _. each P (ltb (length t) (tablesEnd t)) _ _ (λ _. refl) (λ _. refl))))))
+unfolding Stands Mft·answerOf
+mft-stands points t = by (mftOf points t) (mft-refuses Known refl refl refl refl points t)
+  where
+    by : (x : Mft·State) → ((n : ℕ) → x ≡ Mft·State.refused n → Known n) → Stands (mftState (Mft·answerOf t x .state))
+    by (Mft·State.value f) k = refl
+    by (Mft·State.refused n) k = ap State.refused (k n refl)
 
 lut-stands : (walk : Walk) (limit points : ℕ) (p : List ℕ) (at size words : ℕ) → StandsOf (lutOf walk limit points p at size words)
 unfolding Stands lutOf Lut·byType
 lut-stands walk limit points p at size words =
     let t = Lut·tagOf p at size in
     each StandsOf (ltb (length p) (at + countedSize size)) _ _ (λ _. refl)
-    (λ _. each StandsOf (ltb (countedSize size) 48) _ _ (λ _. refl)
+    (λ _. each StandsOf (ltb (countedSize size) shortest) _ _ (λ _. refl)
     (λ _. each StandsOf (isMft t) _ _ (λ _. mft-stands points t)
     (λ _. each StandsOf (isAbm t) _ _ (λ _. abm-stands walk limit t words) (λ _. refl))))
 

@@ -30,7 +30,7 @@ use Rattle.lut_mft_meaning.specs.Answer.{Fields, toldTable as Mft·toldTable}
 use Rattle.lut_mft_meaning.specs.Standard.{fieldsTold16, fieldsTold8, Taken as MftTaken, Begins16, Begins8}
 use Rattle.lut_meaning.specs.Abm.{toldTable as Abm·toldTable}
 use Rattle.lut_meaning.specs.Answer.{mft, abm, Abm, State, Answer as Lut·Answer}
-use Rattle.lut_meaning.specs.Layout.{planOf, recordsNeeded}
+use Rattle.lut_meaning.specs.Layout.{recordsNeeded}
 use Rattle.lut_meaning.specs.Parts.{curvesOf}
 use Rattle.lut_meaning.specs.Standard.{Counts, answerTold, recordsWritten, PartsTaken, CurvesTaken, PartsAs, TagAs, PassesBy}
 use Rattle.text_meaning.specs.Answer.{Answer as Text·Answer, Span, span, Unicode}
@@ -79,7 +79,7 @@ IndexInside table bytes =
 
 -- curve k of those that a walk meets in the tag, A, M and B in turn, and record k in the slots
 abbrev pub curveAt : Walk → Call → ℕ → Placed
-curveAt walk c k = getD (curvesOf walk (c .entries) (tag c) (planOf (tag c))) k (placed 0 empty)
+curveAt walk c k = getD (curvesOf walk (c .entries) (tag c)) k (placed 0 empty)
 
 abbrev pub recordIn : List ℕ → ℕ → List ℕ
 recordIn slots k = take recordWords (drop (k * recordWords) slots)

@@ -9,7 +9,7 @@ use Rattle.curve_meaning.specs.Shape.{recordWords}
 use Rattle.curve_meaning.specs.declared.CurveAnswer.{CurveAnswer}
 use Rattle.curve_meaning.specs.declared.Walk.{Walk}
 use Rattle.lut_run_meaning.specs.Run.{recordsOf}
-use Rattle.lut_meaning.specs.Layout.{planOf, recordsNeeded}
+use Rattle.lut_meaning.specs.Layout.{recordsNeeded}
 use Rattle.lut_meaning.specs.Parts.{curvesOf}
 use Rattle.lut_meaning.specs.declared.LutAnswer.{LutAnswer}
 use Rattle.small_meaning.specs.declared.ChadAnswer.{ChadAnswer}
@@ -80,7 +80,7 @@ unwritten l = record { returns = l .returns; leaves = λ r c. c .slots; reads = 
 
 -- the records of the curves that a walk meets, whatever is answered
 abbrev pub recordsRead : Walk → Call → List ℕ
-recordsRead walk c = recordsOf (curvesOf walk (c .entries) (tag c) (planOf (tag c)))
+recordsRead walk c = recordsOf (curvesOf walk (c .entries) (tag c))
 
 unfoldable pub copies : ℕ → List ℕ → List ℕ
 copies zero words = []

@@ -19,32 +19,32 @@ use Rattle.fields.specs.declared.Place.{Place}
 use Rattle.fields.specs.declared.Place.the-variants.{In, Past}
 use Rattle.fields.specs.declared.Refusal.{Refusal}
 use Rattle.fields.proofs.Located.{inside, past, part-is}
-use Rattle.lut_clut_meaning.specs.Answer.{inNumbers as clutPaper, answerOf, Answer, value as clutValue, refused as clutRefused}
+use Rattle.lut_clut_meaning.specs.Answer.{inNumbers as Clut·inNumbers, answerOf as Clut·answerOf, Answer as Clut·Answer, value as Clut·value, refused as Clut·refused}
 use Rattle.lut_clut_meaning.specs.Clut.{clutOf}
-use Rattle.lut_clut_meaning.specs.Table.{Table, product, lengthOf}
+use Rattle.lut_clut_meaning.specs.Table.{Table, product}
 use Rattle.lut_clut_meaning.specs.declared.ClutAnswer.{ClutAnswer}
 use Rattle.lut_clut_meaning.specs.declared.ColourTable.{ColourTable}
 use Rattle.curve_meaning.specs.Shape.{recordWords}
 use Rattle.curve_meaning.specs.declared.Walk.{Walk}
 use Rattle.lut_mft_meaning.specs.Answer.{State as Mft·State, fieldsFrom, answerOf, inNumbers as Mft·inNumbers}
-use Rattle.lut_mft_meaning.specs.Layout.{isMft}
+use Rattle.lut_mft_meaning.specs.Layout.{isMft, shortest}
 use Rattle.lut_mft_meaning.specs.Mft.{mftOf}
 use Rattle.lut_mft_meaning.specs.declared.Mft.{Mft}
 use Rattle.lut_mft_meaning.specs.declared.MftAnswer.{MftAnswer}
 use Rattle.lut_mft_meaning.specs.declared.MftTable.{MftTable}
 use Rattle.lut_run_meaning.specs.Run.{recordsOf}
-use Rattle.lut_meaning.specs.Abm.{colourTableOf, valueFrom, recordedOf, checkedOf, withTable, abmOf}
-use Rattle.lut_meaning.specs.Answer.{mft, abm, refused, Answer, none, refuse, mftState, fromMft, inNumbers, slotsWith}
-use Rattle.lut_meaning.specs.Layout.{toPcs, inputs, outputs, clutOffset, planOf, Planned, recordsNeeded, gridOf, matrixOf, biasOf}
+use Rattle.lut_meaning.specs.Abm.{valueOf, abmOf}
+use Rattle.lut_meaning.specs.Answer.{mft, abm, refused, Answer, none, refuse, orRefused, mftState, fromMft, inNumbers, slotsWith}
+use Rattle.lut_meaning.specs.Layout.{toPcs, inputs, outputs, clutOffset, recordsNeeded, gridOf, matrixOf, biasOf}
 use Rattle.lut_meaning.specs.Lut.{AnswerAndSlots, tagOf, isAbm, byType, lutOf}
-use Rattle.lut_meaning.specs.Parts.{runsChecked, curvesOf, matrixChecked}
-use Rattle.lut.specs.Grid.{GridInside}
+use Rattle.lut_meaning.specs.Parts.{matrixChecked, tableIn, colourTableOf, runA, runM, runB, ended, RunsWhole, curvesOf}
+use Rattle.lut.specs.Passed.{Opened, TableGood}
+use Rattle.lut.specs.Runs.{RunsOf, andThen, runsChecked}
 use Rattle.lut.specs.Verdict.{verdictInNumbers}
 use Rattle.lut_meaning.specs.declared.Lut.{Lut}
-use Rattle.lut_meaning.specs.declared.Plan.{Plan}
+use Rattle.lut.specs.declared.abm.Runs.{Runs}
 use Rattle.lut.specs.declared.nested.Verdict.{Verdict}
-use Rattle.lut_meaning.proofs.Inside.{grid-inside}
-use Rattle.lut_meaning.proofs.Shared.{all-length}
+use Rattle.lut_meaning.proofs.Shared.{ended-good, table-in, all-length}
 
 -- ---- the parts of the answer
 
@@ -55,18 +55,29 @@ module _ (t : List ℕ) (n : ℕ) (h : n ≡ getD t 8 0) where
   pub many-inputs : 4 < n → (m : ℕ) → m ≡ getD t 9 0 → ltb 4 m ≡ ltb 4 (inputs t) && ltb 4 (outputs t)
   many-inputs l m e = simp (← h, ← e, lt-ltb _ _ l)
 
-module _ (t : List ℕ) (at : ℕ) (h : at ≡ u32At t 24) where
-  pub table-none : at ≡ 0 → clutValue 1 0 0 0 ≡ answerOf (colourTableOf t)
-  unfolding colourTableOf answerOf product
+module _ (t : List ℕ) (at : ℕ) (h : at ≡ clutOffset t) where
+  pub table-none : at ≡ 0 → Clut·value 1 0 0 0 ≡ Clut·answerOf (colourTableOf t)
+  unfolding colourTableOf Clut·answerOf product
   table-none e = simp (← h, eq-eqb _ _ e)
 
-  pub table-there : (at ≡ 0 → ⊥) → (i o : ℕ) → i ≡ getD t 8 0 → o ≡ getD t 9 0 → (r : Answer) → r ≡ answerOf (clutOf t at i o) → r ≡ answerOf (colourTableOf t)
+  pub table-there : (at ≡ 0 → ⊥) → (i o : ℕ) → i ≡ getD t 8 0 → o ≡ getD t 9 0 → (r : Clut·Answer) → r ≡ Clut·answerOf (clutOf t at i o) → r ≡ Clut·answerOf (colourTableOf t)
   unfolding colourTableOf
   table-there e i o ei eo r w = simp (← h, ne-eqb _ _ e, ← ei, ← eo) w
 
-pub valued : (t : List ℕ) (p : Plan) → Planned t p → (to : Bool) (i o start bytes size : ℕ) (g m b : List ℕ) → to ≡ toPcs t → i ≡ getD t 8 0 → o ≡ getD t 9 0 → g ≡ gridOf t → m ≡ matrixOf t → b ≡ biasOf t → record { state = abm record { toPcs = to; inputs = i; outputs = o; start = start; bytes = bytes; size = size; a = p .na; m = p .nm; b = p .nb }; grid = g; matrix = m; bias = b } ≡ valueFrom t start bytes size
-unfolding valueFrom planOf
-valued t p w to i o start bytes size g m b e₁ e₂ e₃ e₄ e₅ e₆ = rw (w .is, e₁, e₂, e₃, e₄, e₅, e₆)
+pub valued : (t : List ℕ) (p : Runs) → RunsOf t p → (c : ColourTable) → TableGood t c → (to : Bool) (i o : ℕ) (g m b : List ℕ) → to ≡ toPcs t → i ≡ getD t 8 0 → o ≡ getD t 9 0 → g ≡ gridOf t → m ≡ matrixOf t → b ≡ biasOf t → record { state = abm record { toPcs = to; inputs = i; outputs = o; start = c .start .0; bytes = c .length; size = c .«entry_size»; a = p .na; m = p .nm; b = p .nb }; grid = g; matrix = m; bias = b } ≡ valueOf t
+unfolding valueOf
+valued t p w c k to i o g m b e₁ e₂ e₃ e₄ e₅ e₆ =
+    rw (e₁, e₂, e₃, e₄, e₅, e₆, k .start-is, k .length-is, k .size-is, w .a-curves .is, w .m-curves .is, w .b-curves .is)
+
+-- ---- the runs, one after the other
+
+first-good : (j k : Checked Unit) → andThen j k ≡ good tt → j ≡ good tt
+first-good (good _) k h = refl
+first-good (bad n) k h = h
+
+second-good : (j k : Checked Unit) → andThen j k ≡ good tt → k ≡ good tt
+second-good (good _) k h = h
+second-good (bad n) k h = never cc
 
 -- ---- what is answered, and what is left
 
@@ -81,78 +92,81 @@ module _ (walk : Walk) (limit : ℕ) (t s : List ℕ) (a : Answer) (r : Lut) whe
   pub same : (b : Answer) (u : List ℕ) → b ≡ a → AnswerAndSlots walk limit t b r s u → AnswerAndSlots walk limit t a r s u
   same b u e h = rw e at h
 
+-- the ladder behind the checks that are passed
+module _ (walk : Walk) (limit : ℕ) (t : List ℕ) (words : ℕ) where
+  abbrev slotted : Answer
+  slotted = cond (ltb (words / recordWords) (recordsNeeded t)) (refuse 14) (valueOf t)
+
+  joined : (j k : Checked Unit) (a : Answer) → orRefused j (orRefused k a) ≡ orRefused (andThen j k) a
+  joined (good _) k a = refl
+  joined (bad n) k a = refl
+
+  behind-table : Opened t → colourTableOf t ≡ good (tableIn t) → abmOf walk limit t words ≡ orRefused (runsChecked walk limit t) slotted
+  unfolding abmOf runsChecked
+  behind-table o c =
+      rw (o .few-channels, o .matrix-good, c)
+      (ap (orRefused (ended (runA walk limit t .end))) (joined (ended (runM walk limit t .end)) (ended (runB walk limit t .end)) slotted) ∙ joined (ended (runA walk limit t .end)) _ slotted)
+
+  behind-runs : Opened t → colourTableOf t ≡ good (tableIn t) → RunsWhole walk limit t → abmOf walk limit t words ≡ slotted
+  unfolding abmOf ended
+  behind-runs o c w = rw (o .few-channels, o .matrix-good, c, w .a-whole, w .m-whole, w .b-whole)
+
 -- a slot is a whole record's words
-module _ (walk : Walk) (limit : ℕ) (t : List ℕ) (p : Plan) (w : Planned t p) (words start bytes size : ℕ) where
+module _ (walk : Walk) (limit : ℕ) (t s : List ℕ) (p : Runs) (w : RunsOf t p) (o : Opened t) (c : ColourTable) (k : TableGood t c) (h : RunsWhole walk limit t) (r : Lut) where
   need : p .na + p .nm + p .nb ≡ recordsNeeded t
-  unfolding recordsNeeded planOf
-  need = rw (w .is)
+  unfolding recordsNeeded
+  need = rw (w .a-curves .is, w .m-curves .is, w .b-curves .is)
 
-  pub few-slots : words / recordWords < p .na + p .nm + p .nb → recordedOf t words start bytes size ≡ refuse 14
-  unfolding recordedOf
-  few-slots l = let k : words / recordWords < recordsNeeded t = omega (arith, need) in rw (lt-ltb _ _ k)
+  pub record-short : length s / recordWords < p .na + p .nm + p .nb → inNumbers r ≡ refuse 14 → AnswerAndSlots walk limit t (abmOf walk limit t (length s)) r s s
+  record-short l g =
+      let few : length s / recordWords < recordsNeeded t = omega (arith, need) in
+      refusing walk limit t s _ r 14 (behind-runs walk limit t (length s) o (k .is-good) h ∙ rw (lt-ltb _ _ few)) g
 
-  pub enough-slots : p .na + p .nm + p .nb ≤ words / recordWords → recordedOf t words start bytes size ≡ valueFrom t start bytes size
-  unfolding recordedOf
-  enough-slots l = let k : recordsNeeded t ≤ words / recordWords = omega (arith, need) in rw (le-ltb _ _ k)
+  pub record-written : p .na + p .nm + p .nb ≤ length s / recordWords → (s' : List ℕ) → s' ≡ recordsOf (curvesOf walk limit t) ++ drop ((p .na + p .nm + p .nb) * recordWords) s → inNumbers r ≡ valueOf t → AnswerAndSlots walk limit t (abmOf walk limit t (length s)) r s s'
+  unfolding valueOf
+  record-written l s' e g =
+      let enough : recordsNeeded t ≤ length s / recordWords = omega (arith, need) in
+      let f : abmOf walk limit t (length s) ≡ valueOf t = behind-runs walk limit t (length s) o (k .is-good) h ∙ rw (le-ltb _ _ enough) in
+      let n : length (recordsOf (curvesOf walk limit t)) ≡ (p .na + p .nm + p .nb) * recordWords = all-length walk limit t h ∙ ap (λ (x : ℕ). x * recordWords) (sym need) in
+      record { answer-is = g ∙ sym f; slots-are = rw (f, n) e }
 
-module _ (walk : Walk) (limit : ℕ) (t s : List ℕ) (p : Plan) (w : Planned t p) (start bytes size : ℕ) (r : Lut) where
-  pub record-short : length s / recordWords < p .na + p .nm + p .nb → inNumbers r ≡ refuse 14 → AnswerAndSlots walk limit t (recordedOf t (length s) start bytes size) r s s
-  record-short l h = refusing walk limit t s _ r 14 (few-slots walk limit t p w (length s) start bytes size l) h
+module _ (walk : Walk) (limit : ℕ) (t s : List ℕ) (v : Verdict) (j : verdictInNumbers v ≡ runsChecked walk limit t) where
+  pub runs-whole : v ≡ Verdict.Good → RunsWhole walk limit t
+  unfolding runsChecked
+  runs-whole e =
+      let a : Checked Unit = ended (runA walk limit t .end) in
+      let m : Checked Unit = ended (runM walk limit t .end) in
+      let b : Checked Unit = ended (runB walk limit t .end) in
+      let all = sym j ∙ ap verdictInNumbers e in
+      let rest = second-good a (andThen m b) all in
+      record { a-whole = ended-good _ (first-good a (andThen m b) all); m-whole = ended-good _ (first-good m b rest); b-whole = ended-good _ (second-good m b rest) }
 
-  pub record-written : p .na + p .nm + p .nb ≤ length s / recordWords → runsChecked walk limit t p ≡ good tt → (s' : List ℕ) → s' ≡ recordsOf (curvesOf walk limit t p) ++ drop ((p .na + p .nm + p .nb) * recordWords) s → inNumbers r ≡ valueFrom t start bytes size → AnswerAndSlots walk limit t (recordedOf t (length s) start bytes size) r s s'
-  unfolding valueFrom
-  record-written l g s' e h =
-      let f = enough-slots walk limit t p w (length s) start bytes size l in
-      let n = all-length walk limit t p g in
-      record { answer-is = h ∙ sym f; slots-are = rw (f, ← w .is, n) e }
+  pub runs-refused : Opened t → (c : ColourTable) → TableGood t c → (why : Refusal) (r : Lut) → v ≡ Verdict.Refused why → inNumbers r ≡ refuse (refusalNumber why) → AnswerAndSlots walk limit t (abmOf walk limit t (length s)) r s s
+  runs-refused o c k why r e h =
+      refusing walk limit t s _ r (refusalNumber why) (behind-table walk limit t (length s) o (k .is-good) ∙ rw (← j, e)) h
 
-module _ (walk : Walk) (limit : ℕ) (t s : List ℕ) (p : Plan) (w : Planned t p) (v : Verdict) (j : verdictInNumbers v ≡ runsChecked walk limit t p) (start bytes size : ℕ) where
-  judged : verdictInNumbers v ≡ runsChecked walk limit t (planOf t)
-  judged = j ∙ ap (runsChecked walk limit t) (w .is)
-
-  pub runs-good : v ≡ Verdict.Good → runsChecked walk limit t p ≡ good tt
-  runs-good e = sym j ∙ ap verdictInNumbers e
-
-  pub runs-refused : (why : Refusal) (r : Lut) → v ≡ Verdict.Refused why → inNumbers r ≡ refuse (refusalNumber why) → AnswerAndSlots walk limit t (checkedOf walk limit t (length s) start bytes size) r s s
-  unfolding checkedOf
-  runs-refused why r e h = refusing walk limit t s _ r (refusalNumber why) (rw (← judged, e)) h
-
-  pub runs-passed : (r : Lut) (s' : List ℕ) → v ≡ Verdict.Good → AnswerAndSlots walk limit t (recordedOf t (length s) start bytes size) r s s' → AnswerAndSlots walk limit t (checkedOf walk limit t (length s) start bytes size) r s s'
-  unfolding checkedOf
-  runs-passed r s' e h = same walk limit t s _ r _ s' (rw (← judged, e)) h
-
-module _ (walk : Walk) (limit : ℕ) (t s : List ℕ) (found : ClutAnswer) (h : clutPaper found ≡ answerOf (colourTableOf t)) where
-  pub table-refused : (why : Refusal) (r : Lut) → found ≡ ClutAnswer.Refused why → inNumbers r ≡ refuse (refusalNumber why) → AnswerAndSlots walk limit t (withTable walk limit t (length s) (colourTableOf t)) r s s
-  unfolding answerOf
-  table-refused why r e g = by (colourTableOf t) refl
+module _ (walk : Walk) (limit : ℕ) (t s : List ℕ) (found : ClutAnswer) (h : Clut·inNumbers found ≡ Clut·answerOf (colourTableOf t)) where
+  pub table-read : (c : ColourTable) → found ≡ ClutAnswer.Value c → TableGood t c
+  unfolding Clut·answerOf
+  table-read c e = by (colourTableOf t) refl
     where
-      by : (x : Checked Table) → colourTableOf t ≡ x → AnswerAndSlots walk limit t (withTable walk limit t (length s) (colourTableOf t)) r s s
-      by (good table) f = let k : clutRefused (refusalNumber why) ≡ answerOf (good table) = sym (ap clutPaper e) ∙ h ∙ ap answerOf f in never cc
-      by (bad n) f = let k : clutRefused (refusalNumber why) ≡ answerOf (bad n) = sym (ap clutPaper e) ∙ h ∙ ap answerOf f in refusing walk limit t s _ r (refusalNumber why) (rw f (let z : n ≡ refusalNumber why = cc in ap refuse z)) g
-
-  pub grid-there : (c : ColourTable) → found ≡ ClutAnswer.Value c → GridInside t
-  unfolding colourTableOf answerOf
-  grid-there c e z = by (clutOf t (clutOffset t) (inputs t) (outputs t)) refl
-    where
-      by : (x : Checked Table) → clutOf t (clutOffset t) (inputs t) (outputs t) ≡ x → clutOffset t + 16 ≤ length t
-      by (good table) f = grid-inside t table f
-      by (bad n) f =
-          let g : colourTableOf t ≡ bad n = rw (ne-eqb _ _ z) f in
-          let k : clutPaper (ClutAnswer.Value c) ≡ answerOf (bad n) = sym (ap clutPaper e) ∙ h ∙ ap answerOf g in
-          never cc
-
-  pub table-passed : (c : ColourTable) (r : Lut) (s' : List ℕ) → found ≡ ClutAnswer.Value c → AnswerAndSlots walk limit t (checkedOf walk limit t (length s) (c .start .0) (c .length) (c .«entry_size»)) r s s' → AnswerAndSlots walk limit t (withTable walk limit t (length s) (colourTableOf t)) r s s'
-  unfolding answerOf
-  table-passed c r s' e g = by (colourTableOf t) refl
-    where
-      by : (x : Checked Table) → colourTableOf t ≡ x → AnswerAndSlots walk limit t (withTable walk limit t (length s) (colourTableOf t)) r s s'
+      by : (x : Checked Table) → colourTableOf t ≡ x → TableGood t c
       by (good table) f =
-          let k : clutPaper (ClutAnswer.Value c) ≡ answerOf (good table) = sym (ap clutPaper e) ∙ h ∙ ap answerOf f in
-          let k₁ : c .start .0 ≡ table .start = cc in
-          let k₂ : c .length ≡ lengthOf table = cc in
-          let k₃ : c .«entry_size» ≡ table .size = cc in
-          rw (f, ← k₁, ← k₂, ← k₃) g
-      by (bad n) f = let k : clutPaper (ClutAnswer.Value c) ≡ answerOf (bad n) = sym (ap clutPaper e) ∙ h ∙ ap answerOf f in never cc
+          let k : Clut·inNumbers (ClutAnswer.Value c) ≡ Clut·answerOf (good table) = sym (ap Clut·inNumbers e) ∙ h ∙ ap Clut·answerOf f in
+          let same = table-in t table f in
+          record { is-good = f ∙ ap good (sym same); start-is = rw same cc; length-is = rw same cc; size-is = rw same cc }
+      by (bad n) f = let k : Clut·inNumbers (ClutAnswer.Value c) ≡ Clut·answerOf (bad n) = sym (ap Clut·inNumbers e) ∙ h ∙ ap Clut·answerOf f in never cc
+
+  pub table-refused : Opened t → (why : Refusal) (r : Lut) → found ≡ ClutAnswer.Refused why → inNumbers r ≡ refuse (refusalNumber why) → AnswerAndSlots walk limit t (abmOf walk limit t (length s)) r s s
+  unfolding abmOf Clut·answerOf
+  table-refused o why r e g = by (colourTableOf t) refl
+    where
+      by : (x : Checked Table) → colourTableOf t ≡ x → AnswerAndSlots walk limit t (abmOf walk limit t (length s)) r s s
+      by (good table) f = let k : Clut·refused (refusalNumber why) ≡ Clut·answerOf (good table) = sym (ap Clut·inNumbers e) ∙ h ∙ ap Clut·answerOf f in never cc
+      by (bad n) f =
+          let k : Clut·refused (refusalNumber why) ≡ Clut·answerOf (bad n) = sym (ap Clut·inNumbers e) ∙ h ∙ ap Clut·answerOf f in
+          let z : n ≡ refusalNumber why = cc in
+          refusing walk limit t s _ r (refusalNumber why) (rw (o .few-channels, o .matrix-good, f) (ap refuse z)) g
 
 module _ (walk : Walk) (limit : ℕ) (t s : List ℕ) (b : Bool) (h : b ≡ ltb 4 (inputs t) && ltb 4 (outputs t)) where
   pub abm-absent : (r : Lut) → b ≡ true → inNumbers r ≡ none → AnswerAndSlots walk limit t (abmOf walk limit t (length s)) r s s
@@ -164,9 +178,8 @@ module _ (walk : Walk) (limit : ℕ) (t s : List ℕ) (b : Bool) (h : b ≡ ltb 
     unfolding abmOf
     matrix-refused why r f g = refusing walk limit t s _ r (refusalNumber why) (rw (← h, e, ← j, f)) g
 
-    pub matrix-passed : (r : Lut) (s' : List ℕ) → v ≡ Verdict.Good → AnswerAndSlots walk limit t (withTable walk limit t (length s) (colourTableOf t)) r s s' → AnswerAndSlots walk limit t (abmOf walk limit t (length s)) r s s'
-    unfolding abmOf
-    matrix-passed r s' f g = same walk limit t s _ r _ s' (rw (← h, e, ← j, f)) g
+pub opened : (t : List ℕ) (b : Bool) → b ≡ ltb 4 (inputs t) && ltb 4 (outputs t) → b ≡ false → (v : Verdict) → verdictInNumbers v ≡ matrixChecked t → v ≡ Verdict.Good → Opened t
+opened t b h e v j g = record { few-channels = sym h ∙ e; matrix-good = sym j ∙ ap verdictInNumbers g }
 
 -- ---- the type
 
@@ -214,11 +227,11 @@ module _ (walk : Walk) (limit points : ℕ) (p s : List ℕ) (entry size end : �
   lut-past e g = refusing walk limit _ s _ r 1 (rw (← n, lt-ltb _ _ (past _ _ _ h e))) g
 
   module _ (from to : ℕ) (e : place ≡ In from to) where
-    pub lut-short : end < 48 → inNumbers r ≡ refuse 2 → AnswerAndSlots walk limit (tagOf p entry size) (lutOf walk limit points p entry size (length s)) r s s
+    pub lut-short : end < shortest → inNumbers r ≡ refuse 2 → AnswerAndSlots walk limit (tagOf p entry size) (lutOf walk limit points p entry size (length s)) r s s
     unfolding lutOf
     lut-short l g = let i = inside _ _ _ h e in refusing walk limit _ s _ r 2 (rw (← n, le-ltb _ _ (i .fits), lt-ltb _ _ l)) g
 
-    pub lut-kind : 48 ≤ end → (s' : List ℕ) → AnswerAndSlots walk limit (take (to - from) (drop from p)) (byType walk limit points (take (to - from) (drop from p)) (length s)) r s s' → AnswerAndSlots walk limit (tagOf p entry size) (lutOf walk limit points p entry size (length s)) r s s'
+    pub lut-kind : shortest ≤ end → (s' : List ℕ) → AnswerAndSlots walk limit (take (to - from) (drop from p)) (byType walk limit points (take (to - from) (drop from p)) (length s)) r s s' → AnswerAndSlots walk limit (tagOf p entry size) (lutOf walk limit points p entry size (length s)) r s s'
     unfolding lutOf
     lut-kind l s' g =
         let i = inside _ _ _ h e in

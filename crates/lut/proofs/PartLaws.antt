@@ -18,16 +18,17 @@ use Rattle.fields.specs.Checked.{Checked, good, bad}
 use Rattle.fields.specs.Bytes.{u32At, bytesAt, wordsAt}
 use Rattle.fields.proofs.Choice.{first-holds, second-holds}
 use Rattle.fields.proofs.Stores.{sets-append, front, rejoined}
+use Rattle.lut_clut_meaning.specs.Clut.{clutOf}
 use Rattle.curve_meaning.specs.Shape.{recordWords}
 use Rattle.curve_meaning.specs.declared.Walk.{Walk}
-use Rattle.lut_run_meaning.specs.Run.{runAt, recordsOf}
-use Rattle.lut_meaning.specs.Layout.{toPcs, deviceChannels, spaceChannels, present, Few, aCurves, mCurves, bCurves, planOf, Planned, identity, matrixOf, biasOf, gridOf}
-use Rattle.lut_meaning.specs.Parts.{runA, runM, runB, runsChecked, curvesOf, matrixChecked}
-use Rattle.lut_meaning.specs.Checks.{ended, andThen}
-use Rattle.lut.specs.Grid.{GridInside}
+use Rattle.lut_run_meaning.specs.Run.{whole, Run, runAt, recordsOf}
+use Rattle.lut_meaning.specs.Layout.{toPcs, inputs, outputs, matrixOffset, matrixBytes, biasFrom, clutOffset, aOffset, mOffset, bOffset, deviceChannels, spaceChannels, present, aCurves, mCurves, bCurves, identity, matrixOf, biasOf, gridOf}
+use Rattle.lut_meaning.specs.Parts.{matrixChecked, tableIn, colourTableOf, runA, runM, runB, ended, RunsWhole, curvesOf}
+use Rattle.lut_meaning.proofs.Inside.{grid-inside}
+use Rattle.lut.specs.Runs.{Few, RunsOf, andThen, runsChecked}
 use Rattle.lut.specs.Verdict.{verdictInNumbers}
-use Rattle.lut_meaning.specs.declared.Plan.{Plan}
-use Rattle.lut_meaning.proofs.Shared.{a-whole, m-whole, b-whole, records-of, all-records}
+use Rattle.lut_meaning.proofs.Shared.{records-of, all-records}
+use Rattle.lut.specs.declared.abm.Runs.{Runs}
 use Rattle.lut.specs.declared.nested.Verdict.{Verdict}
 use Rattle.lut.proofs.nested.Verdict as verdicts
 
@@ -61,38 +62,25 @@ module _ (offset n : ℕ) where
   unfolding present
   some-few e l = record { is = sym (rw (ne-eqb offset 0 e)); few = l }
 
-module _ (t : List ℕ) (offset channels r : ℕ) (few : Few (present offset channels) r) where
-  pub a-few : offset ≡ u32At t 28 → channels ≡ deviceChannels t → Few (aCurves t) r
-  unfolding aCurves
-  a-few e f = rw (← e, ← f) few
+pub ruleset few-laws = (none-few, some-few)
 
-  pub m-few : offset ≡ u32At t 20 → channels ≡ spaceChannels t → Few (mCurves t) r
-  unfolding mCurves
-  m-few e f = rw (← e, ← f) few
-
-  pub b-few : offset ≡ u32At t 12 → channels ≡ spaceChannels t → Few (bCurves t) r
-  unfolding bCurves
-  b-few e f = rw (← e, ← f) few
-
-pub ruleset few-laws = (none-few, some-few, a-few, m-few, b-few)
-
-pub planned : (t : List ℕ) (p : Plan) → p .a .0 ≡ u32At t 28 → Few (aCurves t) (p .na) → p .m .0 ≡ u32At t 20 → Few (mCurves t) (p .nm) → p .b .0 ≡ u32At t 12 → Few (bCurves t) (p .nb) → Planned t p
-unfolding planOf
-planned t p ea fa em fm eb fb =
-    record { is = rw (← ea, ← fa .is, ← em, ← fm .is, ← eb, ← fb .is); a-few = fa .few; m-few = fm .few; b-few = fb .few }
+pub runs-found : (t : List ℕ) (p : Runs) (device space : ℕ) → device ≡ deviceChannels t → space ≡ spaceChannels t → p .a .0 ≡ aOffset t → Few (present (p .a .0) device) (p .na) → p .m .0 ≡ mOffset t → Few (present (p .m .0) space) (p .nm) → p .b .0 ≡ bOffset t → Few (present (p .b .0) space) (p .nb) → RunsOf t p
+unfolding aCurves mCurves bCurves
+runs-found t p device space ed es ea fa em fm eb fb =
+    record { a-at = ea; m-at = em; b-at = eb; a-curves = rw (← ea, ← ed) fa; m-curves = rw (← em, ← es) fm; b-curves = rw (← eb, ← es) fb }
 
 -- ---- the matrix
 
-module _ (t : List ℕ) (at : ℕ) (h : at ≡ u32At t 16) where
+module _ (t : List ℕ) (at : ℕ) (h : at ≡ matrixOffset t) where
   pub matrix-none : at ≡ 0 → good tt ≡ matrixChecked t
   unfolding matrixChecked
   matrix-none e = simp (← h, eq-eqb _ _ e)
 
-  pub matrix-past : (at ≡ 0 → ⊥) → length t < at + 48 → bad 2 ≡ matrixChecked t
+  pub matrix-past : (at ≡ 0 → ⊥) → length t < at + matrixBytes → bad 2 ≡ matrixChecked t
   unfolding matrixChecked
   matrix-past e l = simp (← h, ne-eqb _ _ e, lt-ltb _ _ l)
 
-  pub matrix-there : (at ≡ 0 → ⊥) → at + 48 ≤ length t → good tt ≡ matrixChecked t
+  pub matrix-there : (at ≡ 0 → ⊥) → at + matrixBytes ≤ length t → good tt ≡ matrixChecked t
   unfolding matrixChecked
   matrix-there e l = simp (← h, ne-eqb _ _ e, le-ltb _ _ l)
 
@@ -110,66 +98,102 @@ pass-here : (v : Verdict) (j next : Checked Unit) → v ≡ Verdict.Good → ver
 pass-here v (good _) next e h = refl
 pass-here v (bad n) next e h = never cc
 
-module _ (walk : Walk) (limit : ℕ) (t : List ℕ) (p : Plan) (v : Verdict) (ja : verdictInNumbers v ≡ ended (runA walk limit t p .end)) where
-  pub runs-a : OneOf (1 ∷ []) (placeIn verdicts.the-type v) → verdictInNumbers v ≡ runsChecked walk limit t p
-  unfolding runsChecked
-  runs-a o = stop-here v _ _ o ja
+-- the runs that the code walks are those of the tag
+module _ (walk : Walk) (limit : ℕ) (t : List ℕ) (p : Runs) (w : RunsOf t p) where
+  a-is : runAt walk limit t (p .a .0) (p .na) ≡ runA walk limit t
+  a-is = rw (w .a-at, w .a-curves .is)
 
-  module _ (g : v ≡ Verdict.Good) (w : Verdict) (jm : verdictInNumbers w ≡ ended (runM walk limit t p .end)) where
-    pub runs-m : OneOf (1 ∷ []) (placeIn verdicts.the-type w) → verdictInNumbers w ≡ runsChecked walk limit t p
-    unfolding runsChecked
-    runs-m o = stop-here w _ _ o jm ∙ pass-here v _ _ g ja
+  m-is : runAt walk limit t (p .m .0) (p .nm) ≡ runM walk limit t
+  m-is = rw (w .m-at, w .m-curves .is)
 
-    pub runs-b : (x : Verdict) → w ≡ Verdict.Good → verdictInNumbers x ≡ ended (runB walk limit t p .end) → verdictInNumbers x ≡ runsChecked walk limit t p
+  b-is : runAt walk limit t (p .b .0) (p .nb) ≡ runB walk limit t
+  b-is = rw (w .b-at, w .b-curves .is)
+
+  module _ (v : Verdict) (ja : verdictInNumbers v ≡ ended (runAt walk limit t (p .a .0) (p .na) .end)) where
+    of-a : verdictInNumbers v ≡ ended (runA walk limit t .end)
+    of-a = ja ∙ ap (λ (r : Run). ended (r .end)) a-is
+
+    pub runs-a : OneOf (1 ∷ []) (placeIn verdicts.the-type v) → verdictInNumbers v ≡ runsChecked walk limit t
     unfolding runsChecked
-    runs-b x e jb = jb ∙ pass-here w _ _ e jm ∙ pass-here v _ _ g ja
+    runs-a o = stop-here v _ _ o of-a
+
+    module _ (g : v ≡ Verdict.Good) (u : Verdict) (jm : verdictInNumbers u ≡ ended (runAt walk limit t (p .m .0) (p .nm) .end)) where
+      of-m : verdictInNumbers u ≡ ended (runM walk limit t .end)
+      of-m = jm ∙ ap (λ (r : Run). ended (r .end)) m-is
+
+      pub runs-m : OneOf (1 ∷ []) (placeIn verdicts.the-type u) → verdictInNumbers u ≡ runsChecked walk limit t
+      unfolding runsChecked
+      runs-m o = stop-here u _ _ o of-m ∙ pass-here v _ _ g of-a
+
+      pub runs-b : (x : Verdict) → u ≡ Verdict.Good → verdictInNumbers x ≡ ended (runAt walk limit t (p .b .0) (p .nb) .end) → verdictInNumbers x ≡ runsChecked walk limit t
+      unfolding runsChecked
+      runs-b x e jb = jb ∙ ap (λ (r : Run). ended (r .end)) b-is ∙ pass-here u _ _ e of-m ∙ pass-here v _ _ g of-a
 
 pub ruleset runs-laws = (runs-a, runs-m, runs-b)
 
 -- ---- curves B alone
 
-module _ (p : Plan) where
+module _ (p : Runs) where
   pub alone-not : (p .na ≡ 0 → ⊥) → false ≡ eqb (p .na) 0 && eqb (p .nm) 0
   alone-not z = simp (ne-eqb _ _ z)
 
   pub alone-test : p .na ≡ 0 → eqb (p .nm) 0 ≡ eqb (p .na) 0 && eqb (p .nm) 0
   alone-test z = simp (eq-eqb _ _ z)
 
-module _ (walk : Walk) (limit : ℕ) (t : List ℕ) (p : Plan) (b : Bool) (h : b ≡ eqb (p .na) 0 && eqb (p .nm) 0) (e : b ≡ true) where
+module _ (walk : Walk) (limit : ℕ) (t : List ℕ) (p : Runs) (w : RunsOf t p) (b : Bool) (h : b ≡ eqb (p .na) 0 && eqb (p .nm) 0) (e : b ≡ true) where
   a-none : p .na ≡ 0
   a-none = eqb-true _ _ (first-holds (eqb (p .na) 0) (eqb (p .nm) 0) (sym h ∙ e))
 
   m-none : p .nm ≡ 0
   m-none = eqb-true _ _ (second-holds (eqb (p .na) 0) (eqb (p .nm) 0) (sym h ∙ e))
 
-  pub alone-judged : (v : Verdict) → verdictInNumbers v ≡ ended (runB walk limit t p .end) → verdictInNumbers v ≡ runsChecked walk limit t p
+  no-a : aCurves t ≡ 0
+  no-a = sym (w .a-curves .is) ∙ a-none
+
+  no-m : mCurves t ≡ 0
+  no-m = sym (w .m-curves .is) ∙ m-none
+
+  pub alone-judged : (v : Verdict) → verdictInNumbers v ≡ ended (runAt walk limit t (p .b .0) (p .nb) .end) → verdictInNumbers v ≡ runsChecked walk limit t
   unfolding runsChecked runAt ended
-  alone-judged v j = rw (a-none, m-none) j
+  alone-judged v j = rw (no-a, no-m) (j ∙ ap (λ (r : Run). ended (r .end)) (b-is walk limit t p w))
+
+  pub alone-whole : RunsWhole walk limit t → runAt walk limit t (p .b .0) (p .nb) .end ≡ whole
+  alone-whole k = ap (λ (r : Run). r .end) (b-is walk limit t p w) ∙ k .b-whole
 
   pub alone-room : (s : List ℕ) → (p .na + p .nm + p .nb) * recordWords ≤ length s → p .nb * recordWords ≤ length s
   alone-room s l = omega arith
 
-  pub alone-written : (s s′ : List ℕ) → s′ ≡ recordsOf (runB walk limit t p .curves) ++ drop (p .nb * recordWords) s → s′ ≡ recordsOf (curvesOf walk limit t p) ++ drop ((p .na + p .nm + p .nb) * recordWords) s
+  pub alone-written : (s s′ : List ℕ) → s′ ≡ recordsOf (runAt walk limit t (p .b .0) (p .nb) .curves) ++ drop (p .nb * recordWords) s → s′ ≡ recordsOf (curvesOf walk limit t) ++ drop ((p .na + p .nm + p .nb) * recordWords) s
   unfolding curvesOf runAt
-  alone-written s s′ w = rw (a-none, m-none, zero-add) w
+  alone-written s s′ k = rw (no-a, no-m, a-none, m-none, zero-add, ← w .b-at, ← w .b-curves .is) k
 
 -- ---- the runs, written
 
-module _ (walk : Walk) (limit : ℕ) (t : List ℕ) (p : Plan) (h : runsChecked walk limit t p ≡ good tt) where
+module _ (walk : Walk) (limit : ℕ) (t : List ℕ) (p : Runs) (w : RunsOf t p) (h : RunsWhole walk limit t) where
+  pub a-read : runAt walk limit t (p .a .0) (p .na) .end ≡ whole
+  a-read = ap (λ (r : Run). r .end) (a-is walk limit t p w) ∙ h .a-whole
+
+  pub m-read : runAt walk limit t (p .m .0) (p .nm) .end ≡ whole
+  m-read = ap (λ (r : Run). r .end) (m-is walk limit t p w) ∙ h .m-whole
+
+  pub b-read : runAt walk limit t (p .b .0) (p .nb) .end ≡ whole
+  b-read = ap (λ (r : Run). r .end) (b-is walk limit t p w) ∙ h .b-whole
+
   -- each run is written in front of its part: s₁, s₂ are the slots between the calls, and y₂, y₃ what the calls left of the parts
   pub runs-written : (s₀ : List ℕ) → (p .na + p .nm + p .nb) * recordWords ≤ length s₀
-      → (s₁ : List ℕ) → s₁ ≡ recordsOf (runA walk limit t p .curves) ++ drop (p .na * recordWords) s₀
-      → (y₂ : List ℕ) → y₂ ≡ recordsOf (runM walk limit t p .curves) ++ drop (p .nm * recordWords) (take (length s₁ - p .na * recordWords) (drop (p .na * recordWords) s₁))
+      → (s₁ : List ℕ) → s₁ ≡ recordsOf (runAt walk limit t (p .a .0) (p .na) .curves) ++ drop (p .na * recordWords) s₀
+      → (y₂ : List ℕ) → y₂ ≡ recordsOf (runAt walk limit t (p .m .0) (p .nm) .curves) ++ drop (p .nm * recordWords) (take (length s₁ - p .na * recordWords) (drop (p .na * recordWords) s₁))
       → (s₂ : List ℕ) → s₂ ≡ putMid (p .na * recordWords) (length s₁ - p .na * recordWords) s₁ y₂
-      → (y₃ : List ℕ) → y₃ ≡ recordsOf (runB walk limit t p .curves) ++ drop (p .nb * recordWords) (take (length s₂ - (p .na + p .nm) * recordWords) (drop ((p .na + p .nm) * recordWords) s₂))
-      → putMid ((p .na + p .nm) * recordWords) (length s₂ - (p .na + p .nm) * recordWords) s₂ y₃ ≡ recordsOf (curvesOf walk limit t p) ++ drop ((p .na + p .nm + p .nb) * recordWords) s₀
+      → (y₃ : List ℕ) → y₃ ≡ recordsOf (runAt walk limit t (p .b .0) (p .nb) .curves) ++ drop (p .nb * recordWords) (take (length s₂ - (p .na + p .nm) * recordWords) (drop ((p .na + p .nm) * recordWords) s₂))
+      → putMid ((p .na + p .nm) * recordWords) (length s₂ - (p .na + p .nm) * recordWords) s₂ y₃ ≡ recordsOf (curvesOf walk limit t) ++ drop ((p .na + p .nm + p .nb) * recordWords) s₀
   runs-written s₀ room s₁ e₁ y₂ e₂ s₂ p₂ y₃ e₃ =
-      let A : List ℕ = recordsOf (runA walk limit t p .curves) in
-      let M : List ℕ = recordsOf (runM walk limit t p .curves) in
-      let B : List ℕ = recordsOf (runB walk limit t p .curves) in
-      let la : length A ≡ p .na * recordWords = records-of walk limit t p h (p .a .0) (p .na) (a-whole walk limit t p h) in
-      let lm : length M ≡ p .nm * recordWords = records-of walk limit t p h (p .m .0) (p .nm) (m-whole walk limit t p h) in
-      let lb : length B ≡ p .nb * recordWords = records-of walk limit t p h (p .b .0) (p .nb) (b-whole walk limit t p h) in
+      let A : List ℕ = recordsOf (runAt walk limit t (p .a .0) (p .na) .curves) in
+      let M : List ℕ = recordsOf (runAt walk limit t (p .m .0) (p .nm) .curves) in
+      let B : List ℕ = recordsOf (runAt walk limit t (p .b .0) (p .nb) .curves) in
+      let la : length A ≡ p .na * recordWords = records-of walk limit t (p .a .0) (p .na) a-read in
+      let lm : length M ≡ p .nm * recordWords = records-of walk limit t (p .m .0) (p .nm) m-read in
+      let lb : length B ≡ p .nb * recordWords = records-of walk limit t (p .b .0) (p .nb) b-read in
+      let all : recordsOf (curvesOf walk limit t) ≡ A ++ M ++ B = all-records walk limit t ∙ rw (a-is walk limit t p w, m-is walk limit t p w, b-is walk limit t p w) refl in
       let w₁ : s₁ ≡ sets s₀ 0 A = e₁ ∙ front s₀ A (p .na * recordWords) la (omega arith) in
       let l₁ : length s₁ ≡ length s₀ = ap length w₁ ∙ length-sets s₀ 0 A in
       let w₂ : s₂ ≡ sets s₁ (p .na * recordWords) M = p₂ ∙ rejoined s₁ M (p .na * recordWords) (p .nm * recordWords) lm (omega arith) y₂ e₂ in
@@ -184,35 +208,38 @@ module _ (walk : Walk) (limit : ℕ) (t : List ℕ) (p : Plan) (h : runsChecked 
       ∙ ap (λ (k : ℕ). sets (sets s₀ 0 (A ++ M)) k B) i
       ∙ sym (sets-append (A ++ M) B s₀ 0)
       ∙ sym (front s₀ (A ++ M ++ B) ((p .na + p .nm + p .nb) * recordWords) n room)
-      ∙ ap (λ (x : List ℕ). x ++ drop ((p .na + p .nm + p .nb) * recordWords) s₀) (sym (all-records walk limit t p h))
+      ∙ ap (λ (x : List ℕ). x ++ drop ((p .na + p .nm + p .nb) * recordWords) s₀) (sym all)
 
 -- ---- rows read into arrays
 
 module _ (t : List ℕ) (at : ℕ) where
-  pub matrix-given : at ≡ u32At t 16 → (at ≡ 0 → ⊥) → (ws : List ℕ) → ws ≡ wordsAt t at 9 → ws ≡ matrixOf t
+  pub matrix-given : at ≡ matrixOffset t → (at ≡ 0 → ⊥) → (ws : List ℕ) → ws ≡ wordsAt t at 9 → ws ≡ matrixOf t
   unfolding matrixOf
   matrix-given h e ws w = rw (← h, ne-eqb at 0 e) w
 
-  pub matrix-default : at ≡ u32At t 16 → at ≡ 0 → identity ≡ matrixOf t
+  pub matrix-default : at ≡ matrixOffset t → at ≡ 0 → identity ≡ matrixOf t
   unfolding matrixOf
   matrix-default h e = rw (← h, eq-eqb at 0 e)
 
-  pub bias-given : at ≡ u32At t 16 → (at ≡ 0 → ⊥) → {x y z : ℕ} → x ≡ u32At t (at + 36) → y ≡ u32At t (at + 36 + 4) → z ≡ u32At t (at + 36 + 8) → x ∷ y ∷ z ∷ [] ≡ biasOf t
+  pub bias-given : at ≡ matrixOffset t → (at ≡ 0 → ⊥) → {x y z : ℕ} → x ≡ u32At t (at + biasFrom) → y ≡ u32At t (at + biasFrom + 4) → z ≡ u32At t (at + biasFrom + 8) → x ∷ y ∷ z ∷ [] ≡ biasOf t
   unfolding biasOf wordsAt
-  bias-given h e ex ey ez = let k : at + 36 + 8 ≡ at + 36 + 4 + 4 = omega arith in rw (← h, ne-eqb at 0 e, ex, ey, ez, k)
+  bias-given h e ex ey ez = let k : at + biasFrom + 8 ≡ at + biasFrom + 4 + 4 = omega arith in rw (← h, ne-eqb at 0 e, ex, ey, ez, k)
 
-  pub bias-default : at ≡ u32At t 16 → at ≡ 0 → replicate 3 0 ≡ biasOf t
+  pub bias-default : at ≡ matrixOffset t → at ≡ 0 → replicate 3 0 ≡ biasOf t
   unfolding biasOf
   bias-default h e = rw (← h, eq-eqb at 0 e)
 
-  pub grid-given : at ≡ u32At t 24 → (at ≡ 0 → ⊥) → (bs : List ℕ) → bs ≡ bytesAt t at 16 → bs ≡ gridOf t
+  pub grid-given : at ≡ clutOffset t → (at ≡ 0 → ⊥) → (bs : List ℕ) → bs ≡ bytesAt t at 16 → bs ≡ gridOf t
   unfolding gridOf
   grid-given h e bs w = rw (← h, ne-eqb at 0 e) w
 
-  pub grid-fits : GridInside t → at ≡ u32At t 24 → (at ≡ 0 → ⊥) → at + 16 ≤ length t
-  grid-fits g h e = let l = g (λ z. e (h ∙ z)) in omega arith
+  pub grid-fits : colourTableOf t ≡ good (tableIn t) → at ≡ clutOffset t → (at ≡ 0 → ⊥) → at + 16 ≤ length t
+  unfolding colourTableOf
+  grid-fits g h e =
+      let k : clutOf t (clutOffset t) (inputs t) (outputs t) ≡ good (tableIn t) = rw (ne-eqb _ _ (λ z. e (h ∙ z))) at g in
+      omega (arith, grid-inside t (tableIn t) k)
 
-  pub grid-default : at ≡ u32At t 24 → at ≡ 0 → replicate 16 0 ≡ gridOf t
+  pub grid-default : at ≡ clutOffset t → at ≡ 0 → replicate 16 0 ≡ gridOf t
   unfolding gridOf
   grid-default h e = rw (← h, eq-eqb at 0 e)
 

@@ -28,7 +28,7 @@ use Rattle.curve_meaning.proofs.Answered.{stepped, stepped-no}
 use Rattle.lut_run_meaning.specs.Run.{Run, aligned, curveAtOffset, runAt}
 use Rattle.lut_run_meaning.proofs.Runs.{entry-there, entry-inside, run-turn}
 use Rattle.lut_run_meaning.proofs.Writing.{Writing, words-length, next-is, turns}
-use Rattle.lut_meaning.specs.Checks.{ended}
+use Rattle.lut_meaning.specs.Parts.{ended}
 use Rattle.lut.specs.Verdict.{verdictInNumbers, stepVerdict}
 use Rattle.lut.specs.declared.nested.Verdict.{Verdict}
 

@@ -1,2 +1,3 @@
 pub mod Verdict
-pub mod Grid
+pub mod Runs
+pub mod Passed

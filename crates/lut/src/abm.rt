@@ -1,4 +1,17 @@
-// `mAB ` and `mBA `: read_lut_abm_type of moxcms.
+// `mAB ` and `mBA `, the standard's lutAToBType and lutBToAType: read_lut_abm_type of moxcms.
+//
+//    0 to  3  'mAB ' or 'mBA '
+//    4 to  7  reserved, 0
+//    8        input channels
+//    9        output channels
+//   10 to 11  reserved, 0
+//   12 to 15  offset of the B curves
+//   16 to 19  offset of the matrix: nine numbers, and behind them three bias numbers
+//   20 to 23  offset of the M curves
+//   24 to 27  offset of the colour table
+//   28 to 31  offset of the A curves
+//
+// Offsets count from the tag's first byte; a part whose offset is 0 is not there.
 use crate::answer;
 use crate::nested;
 use crate::nested::RECORD_WORDS;
@@ -12,7 +25,6 @@ use lut_clut_meaning::ColourTable;
 use lut_meaning::AbmTable;
 use lut_meaning::Lut;
 use lut_meaning::LutAnswer;
-use lut_meaning::Plan;
 ghost use mathlib.Core.Path.{_≡_};
 ghost use mathlib.Core.Bool.{_&&_};
 ghost use mathlib.Core.List.{_++_};
@@ -24,13 +36,43 @@ ghost use Rattle.lut_clut_meaning.specs.Answer.{inNumbers as Clut·inNumbers, a
 ghost use Rattle.fields.specs.Bytes.{bytesAt};
 ghost use Rattle.curve_meaning.specs.Shape.{recordWords};
 ghost use Rattle.lut_run_meaning.specs.Run.{recordsOf};
-ghost use Rattle.lut_meaning.specs.Abm.{colourTableOf, valueFrom, recordedOf, checkedOf, withTable, abmOf};
+ghost use Rattle.lut_meaning.specs.Abm.{valueOf, abmOf};
 ghost use Rattle.lut_meaning.specs.Lut.{AnswerAndSlots};
-ghost use Rattle.lut_meaning.specs.Parts.{runsChecked, curvesOf, matrixChecked};
+ghost use Rattle.lut_meaning.specs.Parts.{matrixChecked, tableIn, colourTableOf, RunsWhole, curvesOf};
 ghost use Rattle.lut_meaning.specs.Answer.{inNumbers};
-ghost use Rattle.lut_meaning.specs.Layout.{toPcs, inputs, outputs, deviceChannels, spaceChannels, Few, present, aCurves, mCurves, bCurves, Planned, gridOf, matrixOf, biasOf};
-ghost use Rattle.lut.specs.Grid.{GridInside};
+ghost use Rattle.lut_meaning.specs.Layout.{toPcs, inputs, outputs, deviceChannels, spaceChannels, present, gridOf, matrixOf, biasOf};
+ghost use Rattle.lut.specs.Passed.{Opened, TableGood};
+ghost use Rattle.lut.specs.Runs.{Few, RunsOf, runsChecked};
 ghost use Rattle.lut.specs.Verdict.{verdictInNumbers};
+
+const INPUTS: InTag = InTag(8);
+
+const OUTPUTS: InTag = InTag(9);
+
+const B_OFFSET: InTag = InTag(12);
+
+const MATRIX_OFFSET: InTag = InTag(16);
+
+const M_OFFSET: InTag = InTag(20);
+
+const CLUT_OFFSET: InTag = InTag(24);
+
+const A_OFFSET: InTag = InTag(28);
+
+// The bytes of a matrix and its bias, and where in them the bias starts.
+const MATRIX_BYTES: u64 = 48;
+
+const BIAS_FROM: u64 = 36;
+
+// Where the runs A, M and B start, and how many curves each has: read once, for the checks and the writing.
+struct Runs {
+    a: InTag,
+    na: u32,
+    m: InTag,
+    nm: u32,
+    b: InTag,
+    nb: u32,
+}
 
 // Whether the tag leads towards the connection space.
 fn to_pcs(tag: &[u8]) -> bool
@@ -44,9 +86,9 @@ fn device_channels(tag: &[u8]) -> u8
     ensures { λ r. ⌜ r ≡ deviceChannels (now (tag .entry)) ⌝ }
 {
     if to_pcs(tag) {
-        fields::u8_at(tag, InTag(8))
+        fields::u8_at(tag, INPUTS)
     } else {
-        fields::u8_at(tag, InTag(9))
+        fields::u8_at(tag, OUTPUTS)
     }
 }
 
@@ -54,9 +96,9 @@ fn space_channels(tag: &[u8]) -> u8
     ensures { λ r. ⌜ r ≡ spaceChannels (now (tag .entry)) ⌝ }
 {
     if to_pcs(tag) {
-        fields::u8_at(tag, InTag(9))
+        fields::u8_at(tag, OUTPUTS)
     } else {
-        fields::u8_at(tag, InTag(8))
+        fields::u8_at(tag, INPUTS)
     }
 }
 
@@ -67,48 +109,29 @@ fn run_length(offset: u32, channels: u8) -> u32
     if offset == 0 { 0 } else { channels as u32 }
 }
 
-fn a_curves(tag: &[u8]) -> u32
-    ensures { λ r. ⌜ Few (aCurves (now (tag .entry))) r ⌝ }
+// The runs of the tag.
+fn find_runs(tag: &[u8]) -> Runs
+    ensures { λ r. ⌜ RunsOf (now (tag .entry)) r ⌝ }
 {
-    let offset = fields::u32_at(tag, InTag(28));
-    run_length(offset, device_channels(tag))
-}
-
-fn m_curves(tag: &[u8]) -> u32
-    ensures { λ r. ⌜ Few (mCurves (now (tag .entry))) r ⌝ }
-{
-    let offset = fields::u32_at(tag, InTag(20));
-    run_length(offset, space_channels(tag))
-}
-
-fn b_curves(tag: &[u8]) -> u32
-    ensures { λ r. ⌜ Few (bCurves (now (tag .entry))) r ⌝ }
-{
-    let offset = fields::u32_at(tag, InTag(12));
-    run_length(offset, space_channels(tag))
-}
-
-// Where the runs A, M and B start, and how many curves each has.
-fn find_runs(tag: &[u8]) -> Plan
-    ensures { λ r. ⌜ Planned (now (tag .entry)) r ⌝ }
-{
-    let a = fields::u32_at(tag, InTag(28));
-    let m = fields::u32_at(tag, InTag(20));
-    let b = fields::u32_at(tag, InTag(12));
-    Plan {
+    let device = device_channels(tag);
+    let space = space_channels(tag);
+    let a = fields::u32_at(tag, A_OFFSET);
+    let m = fields::u32_at(tag, M_OFFSET);
+    let b = fields::u32_at(tag, B_OFFSET);
+    Runs {
         a: InTag(a as u64),
-        na: a_curves(tag),
+        na: run_length(a, device),
         m: InTag(m as u64),
-        nm: m_curves(tag),
+        nm: run_length(m, space),
         b: InTag(b as u64),
-        nb: b_curves(tag),
+        nb: run_length(b, space),
     }
 }
 
 // Judges the three runs in order.
-fn check_runs(tag: &[u8], p: Plan, limit: u64, walk: Walk) -> Verdict
-    requires { ⌜ length (now tag) < 2 ^ 32 ⌝ }
-    ensures { λ r. ⌜ verdictInNumbers r ≡ runsChecked walk limit (now (tag .entry)) p ⌝ }
+fn check_runs(tag: &[u8], p: Runs, limit: u64, walk: Walk) -> Verdict
+    requires { ⌜ (length (now tag) < 2 ^ 32) × RunsOf (now tag) p ⌝ }
+    ensures { λ r. ⌜ verdictInNumbers r ≡ runsChecked walk limit (now (tag .entry)) ⌝ }
 {
     let a_at = p.a;
     let a = nested::check_run(tag, a_at, p.na, limit, walk);
@@ -125,9 +148,9 @@ fn check_runs(tag: &[u8], p: Plan, limit: u64, walk: Walk) -> Verdict
 }
 
 // Writes the records of the three runs, which were judged good: each from the slot where the one before ended.
-fn write_runs(tag: &[u8], p: Plan, limit: u64, walk: Walk, slots: &mut [u32])
-    requires { ⌜ (length (now tag) < 2 ^ 32) × (runsChecked walk limit (now tag) p ≡ good tt) × ((p .na + p .nm + p .nb) * recordWords ≤ length (now slots)) ⌝ }
-    ensures { λ _. ⌜ now (slots .exit) ≡ recordsOf (curvesOf walk limit (now (tag .entry)) p) ++ drop ((p .na + p .nm + p .nb) * recordWords) (now (slots .entry)) ⌝ }
+fn write_runs(tag: &[u8], p: Runs, limit: u64, walk: Walk, slots: &mut [u32])
+    requires { ⌜ (length (now tag) < 2 ^ 32) × RunsOf (now tag) p × RunsWhole walk limit (now tag) × ((p .na + p .nm + p .nb) * recordWords ≤ length (now slots)) ⌝ }
+    ensures { λ _. ⌜ now (slots .exit) ≡ recordsOf (curvesOf walk limit (now (tag .entry))) ++ drop ((p .na + p .nm + p .nb) * recordWords) (now (slots .entry)) ⌝ }
 {
     let na = p.na as usize;
     let nm = p.nm as usize;
@@ -142,7 +165,7 @@ fn write_runs(tag: &[u8], p: Plan, limit: u64, walk: Walk, slots: &mut [u32])
 }
 
 // Whether there are curves B alone, or none.
-fn has_b_alone(p: Plan) -> bool
+fn has_b_alone(p: Runs) -> bool
     ensures { λ r. ⌜ r ≡ eqb (p .na) 0 && eqb (p .nm) 0 ⌝ }
 {
     if p.na != 0 {
@@ -152,9 +175,9 @@ fn has_b_alone(p: Plan) -> bool
 }
 
 // Judges the runs. Many tags have curves B alone, and then there is one run to walk.
-fn judge_runs(tag: &[u8], p: Plan, limit: u64, walk: Walk) -> Verdict
-    requires { ⌜ length (now tag) < 2 ^ 32 ⌝ }
-    ensures { λ r. ⌜ verdictInNumbers r ≡ runsChecked walk limit (now (tag .entry)) p ⌝ }
+fn judge_runs(tag: &[u8], p: Runs, limit: u64, walk: Walk) -> Verdict
+    requires { ⌜ (length (now tag) < 2 ^ 32) × RunsOf (now tag) p ⌝ }
+    ensures { λ r. ⌜ verdictInNumbers r ≡ runsChecked walk limit (now (tag .entry)) ⌝ }
 {
     if has_b_alone(p) {
         let at = p.b;
@@ -164,9 +187,9 @@ fn judge_runs(tag: &[u8], p: Plan, limit: u64, walk: Walk) -> Verdict
 }
 
 // Writes the records of the runs, which were judged good.
-fn record_runs(tag: &[u8], p: Plan, limit: u64, walk: Walk, slots: &mut [u32])
-    requires { ⌜ (length (now tag) < 2 ^ 32) × (runsChecked walk limit (now tag) p ≡ good tt) × ((p .na + p .nm + p .nb) * recordWords ≤ length (now slots)) ⌝ }
-    ensures { λ _. ⌜ now (slots .exit) ≡ recordsOf (curvesOf walk limit (now (tag .entry)) p) ++ drop ((p .na + p .nm + p .nb) * recordWords) (now (slots .entry)) ⌝ }
+fn record_runs(tag: &[u8], p: Runs, limit: u64, walk: Walk, slots: &mut [u32])
+    requires { ⌜ (length (now tag) < 2 ^ 32) × RunsOf (now tag) p × RunsWhole walk limit (now tag) × ((p .na + p .nm + p .nb) * recordWords ≤ length (now slots)) ⌝ }
+    ensures { λ _. ⌜ now (slots .exit) ≡ recordsOf (curvesOf walk limit (now (tag .entry))) ++ drop ((p .na + p .nm + p .nb) * recordWords) (now (slots .entry)) ⌝ }
 {
     if has_b_alone(p) {
         let at = p.b;
@@ -176,15 +199,15 @@ fn record_runs(tag: &[u8], p: Plan, limit: u64, walk: Walk, slots: &mut [u32])
     write_runs(tag, p, limit, walk, slots);
 }
 
-// A matrix has 48 bytes.
+// A matrix that is there lies in the tag, its bias with it.
 fn check_matrix(tag: &[u8]) -> Verdict
     ensures { λ r. ⌜ verdictInNumbers r ≡ matrixChecked (now (tag .entry)) ⌝ }
 {
-    let at = fields::u32_at(tag, InTag(16));
+    let at = fields::u32_at(tag, MATRIX_OFFSET);
     if at == 0 {
         return Verdict::Good;
     }
-    if (tag.len() as u64) < at as u64 + 48 {
+    if (tag.len() as u64) < at as u64 + MATRIX_BYTES {
         return Verdict::Refused(Refusal::TagTooShort);
     }
     Verdict::Good
@@ -194,7 +217,7 @@ fn check_matrix(tag: &[u8]) -> Verdict
 fn find_table(tag: &[u8]) -> ClutAnswer
     ensures { λ r. ⌜ Clut·inNumbers r ≡ answerOf (colourTableOf (now (tag .entry))) ⌝ }
 {
-    let at = fields::u32_at(tag, InTag(24));
+    let at = fields::u32_at(tag, CLUT_OFFSET);
     if at == 0 {
         return ClutAnswer::Value(ColourTable {
             points: 1,
@@ -203,8 +226,8 @@ fn find_table(tag: &[u8]) -> ClutAnswer
             entry_size: 0,
         });
     }
-    let inputs = fields::u8_at(tag, InTag(8));
-    let outputs = fields::u8_at(tag, InTag(9));
+    let inputs = fields::u8_at(tag, INPUTS);
+    let outputs = fields::u8_at(tag, OUTPUTS);
     lut_clut::read_clut(tag, InTag(at as u64), inputs, outputs)
 }
 
@@ -224,7 +247,7 @@ fn fill_bytes(tag: &[u8], at: InTag, out: &mut [u8])
 fn matrix(tag: &[u8]) -> [u32; 9]
     ensures { λ r. ⌜ r ≡ matrixOf (now (tag .entry)) ⌝ }
 {
-    let at = fields::u32_at(tag, InTag(16));
+    let at = fields::u32_at(tag, MATRIX_OFFSET);
     if at == 0 {
         return [65536, 0, 0, 0, 65536, 0, 0, 0, 65536];
     }
@@ -234,11 +257,11 @@ fn matrix(tag: &[u8]) -> [u32; 9]
 fn bias(tag: &[u8]) -> [u32; 3]
     ensures { λ r. ⌜ r ≡ biasOf (now (tag .entry)) ⌝ }
 {
-    let at = fields::u32_at(tag, InTag(16));
+    let at = fields::u32_at(tag, MATRIX_OFFSET);
     if at == 0 {
         return [0; 3];
     }
-    let behind = at as u64 + 36;
+    let behind = at as u64 + BIAS_FROM;
     let x = fields::u32_at(tag, InTag(behind));
     let y = fields::u32_at(tag, InTag(behind + 4));
     let z = fields::u32_at(tag, InTag(behind + 8));
@@ -247,10 +270,10 @@ fn bias(tag: &[u8]) -> [u32; 3]
 
 // The sixteen grid bytes, zeros without a colour table.
 fn grid(tag: &[u8]) -> [u8; 16]
-    requires { ⌜ GridInside (now tag) ⌝ }
+    requires { ⌜ colourTableOf (now tag) ≡ good (tableIn (now tag)) ⌝ }
     ensures { λ r. ⌜ r ≡ gridOf (now (tag .entry)) ⌝ }
 {
-    let at = fields::u32_at(tag, InTag(24));
+    let at = fields::u32_at(tag, CLUT_OFFSET);
     let mut bytes = [0u8; 16];
     if at != 0 {
         fill_bytes(tag, InTag(at as u64), &mut bytes);
@@ -259,15 +282,15 @@ fn grid(tag: &[u8]) -> [u8; 16]
 }
 
 // The answer for a tag that is good, with its runs and its colour table.
-fn value(tag: &[u8], p: Plan, table: ColourTable) -> Lut
-    requires { ⌜ Planned (now tag) p × GridInside (now tag) ⌝ }
-    ensures { λ r. ⌜ inNumbers r ≡ valueFrom (now (tag .entry)) (table .start .0) (table .length) (table .«entry_size») ⌝ }
+fn value(tag: &[u8], p: Runs, table: ColourTable) -> Lut
+    requires { ⌜ RunsOf (now tag) p × TableGood (now tag) table ⌝ }
+    ensures { λ r. ⌜ inNumbers r ≡ valueOf (now (tag .entry)) ⌝ }
 {
     let start = table.start;
     let answer = LutAnswer::Abm(AbmTable {
         to_pcs: to_pcs(tag),
-        inputs: fields::u8_at(tag, InTag(8)),
-        outputs: fields::u8_at(tag, InTag(9)),
+        inputs: fields::u8_at(tag, INPUTS),
+        outputs: fields::u8_at(tag, OUTPUTS),
         clut_start: start,
         clut_length: table.length,
         entry_size: table.entry_size,
@@ -290,23 +313,23 @@ fn value(tag: &[u8], p: Plan, table: ColourTable) -> Lut
 fn too_many_channels(tag: &[u8]) -> bool
     ensures { λ r. ⌜ r ≡ ltb 4 (inputs (now (tag .entry))) && ltb 4 (outputs (now (tag .entry))) ⌝ }
 {
-    if fields::u8_at(tag, InTag(8)) <= 4 {
+    if fields::u8_at(tag, INPUTS) <= 4 {
         return false;
     }
-    4 < fields::u8_at(tag, InTag(9))
+    4 < fields::u8_at(tag, OUTPUTS)
 }
 
 // Writes the records of a tag whose runs are good, if the slots suffice, and answers.
 fn write_records(
     tag: &[u8],
-    p: Plan,
+    p: Runs,
     table: ColourTable,
     limit: u64,
     walk: Walk,
     slots: &mut [u32],
 ) -> Lut
-    requires { ⌜ (length (now tag) < 2 ^ 32) × Planned (now tag) p × (runsChecked walk limit (now tag) p ≡ good tt) × GridInside (now tag) ⌝ }
-    ensures { λ r. ⌜ AnswerAndSlots walk limit (now (tag .entry)) (recordedOf (now (tag .entry)) (length (now (slots .entry))) (table .start .0) (table .length) (table .«entry_size»)) r (now (slots .entry)) (now (slots .exit)) ⌝ }
+    requires { ⌜ (length (now tag) < 2 ^ 32) × RunsOf (now tag) p × Opened (now tag) × TableGood (now tag) table × RunsWhole walk limit (now tag) ⌝ }
+    ensures { λ r. ⌜ AnswerAndSlots walk limit (now (tag .entry)) (abmOf walk limit (now (tag .entry)) (length (now (slots .entry)))) r (now (slots .entry)) (now (slots .exit)) ⌝ }
 {
     let needed = p.na + p.nm + p.nb;
     if slots.len() / RECORD_WORDS < needed as usize {
@@ -318,8 +341,8 @@ fn write_records(
 
 // Judges the runs of a tag whose colour table is good, and goes on.
 fn read_runs(tag: &[u8], table: ColourTable, limit: u64, walk: Walk, slots: &mut [u32]) -> Lut
-    requires { ⌜ (length (now tag) < 2 ^ 32) × GridInside (now tag) ⌝ }
-    ensures { λ r. ⌜ AnswerAndSlots walk limit (now (tag .entry)) (checkedOf walk limit (now (tag .entry)) (length (now (slots .entry))) (table .start .0) (table .length) (table .«entry_size»)) r (now (slots .entry)) (now (slots .exit)) ⌝ }
+    requires { ⌜ (length (now tag) < 2 ^ 32) × Opened (now tag) × TableGood (now tag) table ⌝ }
+    ensures { λ r. ⌜ AnswerAndSlots walk limit (now (tag .entry)) (abmOf walk limit (now (tag .entry)) (length (now (slots .entry)))) r (now (slots .entry)) (now (slots .exit)) ⌝ }
 {
     let p = find_runs(tag);
     let judged = judge_runs(tag, p, limit, walk);
@@ -331,8 +354,8 @@ fn read_runs(tag: &[u8], table: ColourTable, limit: u64, walk: Walk, slots: &mut
 
 // Judges the colour table of a tag whose matrix is good, and goes on.
 fn read_parts(tag: &[u8], limit: u64, walk: Walk, slots: &mut [u32]) -> Lut
-    requires { ⌜ length (now tag) < 2 ^ 32 ⌝ }
-    ensures { λ r. ⌜ AnswerAndSlots walk limit (now (tag .entry)) (withTable walk limit (now (tag .entry)) (length (now (slots .entry))) (colourTableOf (now (tag .entry)))) r (now (slots .entry)) (now (slots .exit)) ⌝ }
+    requires { ⌜ (length (now tag) < 2 ^ 32) × Opened (now tag) ⌝ }
+    ensures { λ r. ⌜ AnswerAndSlots walk limit (now (tag .entry)) (abmOf walk limit (now (tag .entry)) (length (now (slots .entry)))) r (now (slots .entry)) (now (slots .exit)) ⌝ }
 {
     let found = find_table(tag);
     match found {

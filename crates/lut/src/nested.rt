@@ -11,7 +11,7 @@ ghost use lib.ListN.{length, drop};
 ghost use Rattle.curve_meaning.specs.Answer.{stepInNumbers, stepChecked};
 ghost use Rattle.curve_meaning.specs.Shape.{recordWords};
 ghost use Rattle.lut_run_meaning.specs.Run.{whole, aligned, curveAtOffset, runAt, recordsOf};
-ghost use Rattle.lut_meaning.specs.Checks.{ended};
+ghost use Rattle.lut_meaning.specs.Parts.{ended};
 ghost use Rattle.lut.specs.Verdict.{verdictInNumbers, stepVerdict};
 
 pub(crate) enum Verdict {

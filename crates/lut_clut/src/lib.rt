@@ -1,4 +1,9 @@
-// The colour table of an `mAB ` or `mBA ` tag: its shape. Carries over the CLUT part of read_lut_abm_type of moxcms.
+// The colour table of an `mAB ` or `mBA ` tag: its shape. Carries over the CLUT part of read_lut_abm_type of moxcms. From its first byte it has
+//
+//    0 to 15  the grid points of each dimension, a byte each
+//   16        the bytes of an entry, 1 or 2
+//   17 to 19  reserved, 0
+//   20 on     the entries
 use fields::InTag;
 use fields::Refusal;
 pub use lut_clut_meaning::ClutAnswer;
@@ -8,6 +13,12 @@ ghost use Prim.Native.Nat.{_*_, min};
 ghost use Rattle.lut_clut_meaning.specs.Answer.{inNumbers, answerOf};
 ghost use Rattle.lut_clut_meaning.specs.Clut.{some, isFlat, tableAt, shapeOf, clutOf};
 ghost use Rattle.lut_clut.specs.Counts.{countsOf, Counted};
+
+const GRID_BYTES: u8 = 16;
+
+const ENTRY_SIZE: u64 = 16;
+
+const ENTRIES: u64 = 20;
 
 // The entries that a table may have, its output channels counted.
 const MOST_ENTRIES: u32 = 10_000_000;
@@ -29,7 +40,11 @@ fn times(n: u32, by: u8) -> u64
 pub fn dimensions(inputs: u8) -> usize
     ensures { λ r. ⌜ r ≡ min inputs 16 ⌝ }
 {
-    if inputs < 16 { inputs as usize } else { 16 }
+    if inputs < GRID_BYTES {
+        inputs as usize
+    } else {
+        GRID_BYTES as usize
+    }
 }
 
 // The product of the grid bytes, in order, then the output channels.
@@ -89,14 +104,14 @@ fn read_shape(
     if (entries as u64) <= times(points - 1, outputs) {
         return ClutAnswer::Refused(Refusal::LastPoint);
     }
-    let entry_size = fields::u8_at(tag, InTag(at.0 + 16));
+    let entry_size = fields::u8_at(tag, InTag(at.0 + ENTRY_SIZE));
     if entry_size < 1 {
         return ClutAnswer::Refused(Refusal::EntrySize);
     }
     if 2 < entry_size {
         return ClutAnswer::Refused(Refusal::EntrySize);
     }
-    let start = at.0 + 20;
+    let start = at.0 + ENTRIES;
     let bytes = times(entries, entry_size);
     if (tag.len() as u64) - start < bytes {
         return ClutAnswer::Refused(Refusal::TagTooShort);
@@ -109,16 +124,16 @@ fn read_shape(
     })
 }
 
-// The colour table at `at` of a tag with so many input and output channels. No sum wraps, whatever `at` is: the tag's length less 20
-// is held against it first.
+// The colour table at `at` of a tag with so many input and output channels. No sum wraps, whatever `at` is: the bytes in front of
+// the entries are taken off the tag's length first.
 pub fn read_clut(tag: &[u8], at: InTag, inputs: u8, outputs: u8) -> ClutAnswer
     ensures { λ r. ⌜ inNumbers r ≡ answerOf (clutOf (now (tag .entry)) (at .0) inputs outputs) ⌝ }
 {
     let len = tag.len() as u64;
-    if len < 20 {
+    if len < ENTRIES {
         return ClutAnswer::Refused(Refusal::TagTooShort);
     }
-    if len - 20 < at.0 {
+    if len - ENTRIES < at.0 {
         return ClutAnswer::Refused(Refusal::TagTooShort);
     }
     let from = at.0 as usize;

@@ -56,7 +56,7 @@ product-last [] n = omega arith
 product-last (g ∷ gs) n = rw (product-last gs n) (omega arith)
 
 -- the table that is read there
-there : (t : List ℕ) (at inputs outputs : ℕ) (table : Table) → Laid t at inputs outputs table → tableAt t at (gridAt t at inputs) outputs ≡ table
+pub there : (t : List ℕ) (at inputs outputs : ℕ) (table : Table) → Laid t at inputs outputs table → tableAt t at (gridAt t at inputs) outputs ≡ table
 there t at inputs outputs table h = rw (← h .grid-is, ← h .outputs-are, ← h .start-is, ← h .size-is)
 
 module _ (t : List ℕ) (at inputs outputs : ℕ) where

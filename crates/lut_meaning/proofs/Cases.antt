@@ -13,13 +13,12 @@ use Rattle.lut_mft_meaning.specs.Answer.{fieldsOf, answerOf}
 use Rattle.lut_mft_meaning.specs.Layout.{isWide, isMft, entrySize, tablesStart, entriesAt, colourTable}
 use Rattle.lut_mft_meaning.specs.Mft.{outside, badEntries, badChannels, badNumbers, tablesOf, numbersOf, mftOf}
 use Rattle.lut_run_meaning.specs.Run.{aligned, curveAtOffset, runAt, recordsOf}
-use Rattle.lut_meaning.specs.Abm.{colourTableOf, valueFrom, recordedOf, checkedOf, abmOf}
+use Rattle.lut_meaning.specs.Abm.{abmOf, valueOf}
 use Rattle.lut_meaning.specs.Cases.{Holds, cases}
-use Rattle.lut_meaning.specs.Layout.{present, deviceChannels, spaceChannels, aCurves, mCurves, bCurves, planOf, recordsNeeded, gridOf, matrixOf, biasOf}
+use Rattle.lut_meaning.specs.Layout.{present, deviceChannels, spaceChannels, aCurves, mCurves, bCurves, recordsNeeded, gridOf, matrixOf, biasOf}
 use Rattle.lut_meaning.specs.Lut.{byType, lutOf}
-use Rattle.lut_meaning.specs.Parts.{runsChecked, curvesOf, matrixChecked}
-use Rattle.lut_meaning.specs.Checks.{ended}
+use Rattle.lut_meaning.specs.Parts.{matrixChecked, tableIn, colourTableOf, ended, curvesOf}
 
 pub claim : Each Holds cases
-unfolding Each Holds lutOf byType isMft isWide answerOf fieldsOf mftOf numbersOf tablesOf badNumbers badChannels badEntries outside colourTable entriesAt tablesStart entrySize abmOf checkedOf recordedOf valueFrom colourTableOf clutOf shapeOf some partials product pointOf runsChecked curvesOf matrixChecked ended present deviceChannels spaceChannels aCurves mCurves bCurves planOf recordsNeeded gridOf matrixOf biasOf bytesAt wordsAt runAt curveAtOffset aligned recordsOf curveOf curvOf paraOf divides parameterCount sizeOf stepOf wordsOf signatureOf
+unfolding Each Holds lutOf byType isMft isWide answerOf fieldsOf mftOf numbersOf tablesOf badNumbers badChannels badEntries outside colourTable entriesAt tablesStart entrySize abmOf valueOf tableIn colourTableOf clutOf shapeOf some partials product pointOf curvesOf matrixChecked ended present deviceChannels spaceChannels aCurves mCurves bCurves recordsNeeded gridOf matrixOf biasOf bytesAt wordsAt runAt curveAtOffset aligned recordsOf curveOf curvOf paraOf divides parameterCount sizeOf stepOf wordsOf signatureOf
 claim = ((refl, refl), ((refl, refl), ((refl, refl), ((refl, refl), ((refl, refl), ((refl, refl), ((refl, refl), ((refl, refl), ((refl, refl), ((refl, refl), ((refl, refl), ((refl, refl), ((refl, refl), ((refl, refl), ((refl, refl), ((refl, refl), ((refl, refl), ((refl, refl), ((refl, refl), ((refl, refl), ((refl, refl), ((refl, refl), ((refl, refl), ((refl, refl), tt))))))))))))))))))))))))

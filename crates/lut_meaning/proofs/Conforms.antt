@@ -18,6 +18,7 @@ use Rattle.icc.specs.Numbers.{be32, each32, Is32, Each32, Bytes}
 use Rattle.icc.specs.Tables.{Matrix, Lut, nine, Sized, Entries16, lut16Type, lut8Type}
 use Rattle.fields.proofs.Written.{read32, words-drop, words-written, bytes-drop, bytes-written, below32, words-below, part-bytes, then8, then16, then32, row32}
 use Rattle.fields.specs.Bytes.{u16At, u32At, bytesAt, wordsAt}
+use Rattle.fields.specs.House.{tagSize}
 use Rattle.fields.specs.Place.{countedSize}
 use Rattle.fields.specs.Tag.{signatureOf}
 use Rattle.fields.specs.declared.Kind.the-variants.{Mab}
@@ -34,21 +35,20 @@ use Rattle.lut_run_meaning.specs.Standard.{seenOf, Passes, Standing, NoneEmpty}
 use Rattle.lut_run_meaning.proofs.Runs.{run-count}
 use Rattle.lut_run_meaning.proofs.Conforms.{written-run, run-written, records-are, passes-by}
 use Rattle.lut_run_meaning.proofs.Writing.{records-append, records-length}
-use Rattle.lut_meaning.specs.Abm.{noTable, colourTableOf, valueFrom, recordedOf, checkedOf, abmOf}
+use Rattle.lut_meaning.specs.Abm.{valueOf, abmOf}
 use Rattle.lut_mft_meaning.specs.Answer.{Fields, State, answerOf}
-use Rattle.lut_mft_meaning.specs.Layout.{isWide, isMft, matrixOf as mftMatrix}
+use Rattle.lut_mft_meaning.specs.Layout.{isWide, isMft, shortest, matrixOf as mftMatrix}
 use Rattle.lut_mft_meaning.specs.Mft.{mftOf}
 use Rattle.lut_mft_meaning.specs.Standard.{fieldsTold16, fieldsTold8, Taken as MftTaken, Begins8, Begins16}
 use Rattle.lut_mft_meaning.proofs.Conforms.{written-read16, written-read8, read-written as mft-written}
 use Rattle.lut_meaning.specs.Answer.{Abm, State as Abm·State, mft, abm, absent, refused, Answer, refuse, fromMft}
-use Rattle.lut_meaning.specs.Checks.{ended}
-use Rattle.lut_meaning.specs.Layout.{toPcs, inputs, outputs, bOffset, matrixOffset, mOffset, clutOffset, aOffset, present, deviceChannels, spaceChannels, aCurves, mCurves, bCurves, planOf, recordsNeeded, matrixOf, biasOf, gridOf}
+use Rattle.lut_meaning.specs.Layout.{toPcs, inputs, outputs, bOffset, matrixOffset, matrixBytes, mOffset, clutOffset, aOffset, present, deviceChannels, spaceChannels, aCurves, mCurves, bCurves, recordsNeeded, matrixOf, biasOf, gridOf}
 use Rattle.lut_meaning.specs.Lut.{byType, lutOf, slotsAfter}
-use Rattle.lut_meaning.specs.Parts.{runA, runM, runB, runsChecked, curvesOf, matrixChecked}
+use Rattle.lut_meaning.specs.Parts.{matrixChecked, noTable, tableIn, colourTableOf, runA, runM, runB, ended, RunsWhole, curvesOf}
 use Rattle.lut_meaning.specs.Standard.{towardsPcs, curvesThere, Counts, matrixTold, biasTold, MatrixTaken, startTold, bytesTold, sizeTold, gridTold, ClutFits, answerTold, recordsWritten, PartsTaken, CurvesTaken, PartsAs, TagAs, PassesBy}
 use Rattle.lut_meaning.proofs.Found.{Accepted, mft-value, in-profile, abm-found, mft-found}
 use Rattle.lut_meaning.proofs.Inside.{matrix-inside}
-use Rattle.lut_meaning.proofs.Shared.{a-whole, m-whole, b-whole}
+use Rattle.lut_meaning.proofs.Shared.{table-in}
 
 -- ---- the head, as the reader has it
 
@@ -112,12 +112,12 @@ module _ {t : List ℕ} where
   set-count {offset} (some-curves n k s) = rw (ne-eqb offset 0 n) (sym k)
 
   -- the matrix
-  matrix-there : (offset : ℕ) (m : Matrix) (b : Bias) → Stands t offset (matrixElement m b) → Each32 (nine m) → Each32 (b .e10 ∷ b .e11 ∷ b .e12 ∷ []) → (offset + 48 ≤ length t) × (wordsAt t offset 9 ≡ nine m) × (wordsAt t (offset + 36) 3 ≡ b .e10 ∷ b .e11 ∷ b .e12 ∷ [])
+  matrix-there : (offset : ℕ) (m : Matrix) (b : Bias) → Stands t offset (matrixElement m b) → Each32 (nine m) → Each32 (b .e10 ∷ b .e11 ∷ b .e12 ∷ []) → (offset + matrixBytes ≤ length t) × (wordsAt t offset 9 ≡ nine m) × (wordsAt t (offset + 36) 3 ≡ b .e10 ∷ b .e11 ∷ b .e12 ∷ [])
   unfolding matrixElement each32
   matrix-there offset m b s f g =
       let rest : List ℕ = be32 (b .e10) ++ be32 (b .e11) ++ be32 (b .e12) ++ s .behind in
       let e : drop offset t ≡ each32 (nine m) ++ rest = s .is in
-      let long : offset + 48 ≤ length t = omega (arith, ap length e, length-drop offset t) in
+      let long : offset + matrixBytes ≤ length t = omega (arith, ap length e, length-drop offset t) in
       let first : wordsAt t offset 9 ≡ wordsAt (drop offset t) 0 9 = ap (λ (i : ℕ). wordsAt t i 9) (sym (add-zero offset)) ∙ sym (words-drop t offset 0 9) in
       let second : wordsAt t (offset + 36) 3 ≡ wordsAt (drop offset t) 36 3 = sym (words-drop t offset 36 3) in
       (long, first ∙ ap (λ (l : List ℕ). wordsAt l 0 9) e ∙ words-written (nine m) rest f, second ∙ ap (λ (l : List ℕ). wordsAt l 36 3) e ∙ sym (words-drop (each32 (nine m) ++ rest) 36 0 3) ∙ words-written (b .e10 ∷ b .e11 ∷ b .e12 ∷ []) (s .behind) g)
@@ -126,7 +126,7 @@ module _ {t : List ℕ} where
     matrix-good : (x : MatrixAt t offset) → MatrixTaken x → matrixChecked t ≡ good tt
     unfolding matrixChecked MatrixTaken
     matrix-good (no-matrix z) f = rw (e, eq-eqb offset 0 z)
-    matrix-good (the-matrix n m b s) (f, g) = rw (e, ne-eqb offset 0 n, le-ltb (length t) (offset + 48) (matrix-there offset m b s f g .0))
+    matrix-good (the-matrix n m b s) (f, g) = rw (e, ne-eqb offset 0 n, le-ltb (length t) (offset + matrixBytes) (matrix-there offset m b s f g .0))
 
     matrix-told : (x : MatrixAt t offset) → MatrixTaken x → matrixOf t ≡ matrixTold x
     unfolding matrixOf matrixTold MatrixTaken
@@ -211,10 +211,10 @@ module _ (t : List ℕ) (l : LutParts t) (f : PartsTaken l) where
   table-read = table-good (seen .clut-is) (seen .i-is) (seen .o-is) (l .clut) (f .clut-fits)
 
   -- the answer tells what was written
-  value-told : valueFrom t (table .start) (lengthOf table) (table .size) ≡ answerTold l
-  unfolding valueFrom
+  value-told : valueOf t ≡ answerTold l
+  unfolding valueOf
   value-told =
-      rw (start-told (seen .clut-is) (seen .i-is) (seen .o-is) (l .clut), bytes-told (seen .clut-is) (seen .i-is) (seen .o-is) (l .clut), size-told (seen .clut-is) (seen .i-is) (seen .o-is) (l .clut), grid-told (seen .clut-is) (seen .i-is) (seen .o-is) (l .clut), matrix-told (seen .matrix-is) (l .matrix) (f .matrix-fits), bias-told (seen .matrix-is) (l .matrix) (f .matrix-fits), a-counted, m-counted, b-counted, there-is (h .offsetA) (curvesA h), there-is (h .offsetM) (curvesMB h), there-is (h .offsetB) (curvesMB h), seen .to-pcs, seen .i-is, seen .o-is)
+      rw (table-in t table table-read, start-told (seen .clut-is) (seen .i-is) (seen .o-is) (l .clut), bytes-told (seen .clut-is) (seen .i-is) (seen .o-is) (l .clut), size-told (seen .clut-is) (seen .i-is) (seen .o-is) (l .clut), grid-told (seen .clut-is) (seen .i-is) (seen .o-is) (l .clut), matrix-told (seen .matrix-is) (l .matrix) (f .matrix-fits), bias-told (seen .matrix-is) (l .matrix) (f .matrix-fits), a-counted, m-counted, b-counted, there-is (h .offsetA) (curvesA h), there-is (h .offsetM) (curvesMB h), there-is (h .offsetB) (curvesMB h), seen .to-pcs, seen .i-is, seen .o-is)
 
   module _ (walk : Walk) (limit : ℕ) (c : LutCurves t h) (k : CurvesTaken walk limit c) where
     a-count : aCurves t ≡ length (c .a)
@@ -226,27 +226,24 @@ module _ (t : List ℕ) (l : LutParts t) (f : PartsTaken l) where
     b-count : bCurves t ≡ length (c .b)
     b-count = b-counted ∙ set-count (c .b-set)
 
-    run-a : runA walk limit t (planOf t) ≡ record { curves = map seenOf (c .a); end = whole }
-    unfolding planOf
+    run-a : runA walk limit t ≡ record { curves = map seenOf (c .a); end = whole }
     run-a = rw (seen .a-is, a-count) (written-run walk limit t (h .offsetA) (c .a) (set-stands (c .a-set)) (k .a-fit) (k .a-passes))
 
-    run-m : runM walk limit t (planOf t) ≡ record { curves = map seenOf (c .m); end = whole }
-    unfolding planOf
+    run-m : runM walk limit t ≡ record { curves = map seenOf (c .m); end = whole }
     run-m = rw (seen .m-is, m-count) (written-run walk limit t (h .offsetM) (c .m) (set-stands (c .m-set)) (k .m-fit) (k .m-passes))
 
-    run-b : runB walk limit t (planOf t) ≡ record { curves = map seenOf (c .b); end = whole }
-    unfolding planOf
+    run-b : runB walk limit t ≡ record { curves = map seenOf (c .b); end = whole }
     run-b = rw (seen .b-is, b-count) (written-run walk limit t (h .offsetB) (c .b) (set-stands (c .b-set)) (k .b-fit) (k .b-passes))
 
     -- the records of the tag are those of the curves that were written
-    pub written-records : recordsOf (curvesOf walk limit t (planOf t)) ≡ recordsWritten c
+    pub written-records : recordsOf (curvesOf walk limit t) ≡ recordsWritten c
     unfolding curvesOf
     written-records =
         rw (run-a, run-m, run-b) (records-append (map seenOf (c .a) ++ map seenOf (c .m)) (map seenOf (c .b)) ∙ rw (records-append (map seenOf (c .a)) (map seenOf (c .m)), records-are (c .a), records-are (c .m), records-are (c .b)))
 
     -- and the answer is as told, if the slots suffice
     pub written-read : (words : ℕ) → (length (c .a) + length (c .m) + length (c .b)) * recordWords ≤ words → abmOf walk limit t words ≡ answerTold l
-    unfolding abmOf checkedOf recordedOf runsChecked ended recordsNeeded
+    unfolding abmOf ended recordsNeeded
     written-read words room =
         let few : ltb 4 (inputs t) && ltb 4 (outputs t) ≡ false = rw (seen .i-is, seen .o-is) (few-is (h .inputChannels) (h .outputChannels) (f .few-channels)) in
         let enough : recordsNeeded t ≤ words / recordWords = omega (arith, a-count, m-count, b-count) in
@@ -274,7 +271,7 @@ module _ (t : List ℕ) (b : Bytes t) where
   abbrev w : ℕ → ℕ
   w i = u32At t i
 
-  matrix-at : (offset : ℕ) → (offset ≡ 0 → ⊥) → offset + 48 ≤ length t → (x : MatrixAt t offset) × MatrixTaken x
+  matrix-at : (offset : ℕ) → (offset ≡ 0 → ⊥) → offset + matrixBytes ≤ length t → (x : MatrixAt t offset) × MatrixTaken x
   unfolding MatrixTaken matrixElement each32 wordsAt
   matrix-at offset n l =
       let i2 : ℕ = offset + 4 in
@@ -288,9 +285,9 @@ module _ (t : List ℕ) (b : Bytes t) where
       let i10 : ℕ = i9 + 4 in
       let m : Matrix = record { e1 = w offset; e2 = w i2; e3 = w i3; e4 = w i4; e5 = w i5; e6 = w i6; e7 = w i7; e8 = w i8; e9 = w i9 } in
       let q : Bias = record { e10 = w i10; e11 = w (i10 + 4); e12 = w (i10 + 4 + 4) } in
-      (the-matrix n m q record { behind = drop (offset + 48) t; is = row32 t b 12 offset l refl refl }, (words-below t b offset 9, words-below t b i10 3))
+      (the-matrix n m q record { behind = drop (offset + matrixBytes) t; is = row32 t b 12 offset l refl refl }, (words-below t b offset 9, words-below t b i10 3))
 
-  matrix-of : (offset : ℕ) → (offset ≡ 0) ⊎ (offset + 48 ≤ length t) → (x : MatrixAt t offset) × MatrixTaken x
+  matrix-of : (offset : ℕ) → (offset ≡ 0) ⊎ (offset + matrixBytes ≤ length t) → (x : MatrixAt t offset) × MatrixTaken x
   unfolding MatrixTaken
   matrix-of offset h = by (eqb offset 0) refl
     where
@@ -340,34 +337,29 @@ module _ (t : List ℕ) (b : Bytes t) where
         record {
           head = head;
           begins = begins;
-          matrix = matrix-of (matrixOffset t) (matrix-inside t (v .matrix-good)) .0;
-          clut = clut-of (inputs t) (outputs t) refl refl few (v .table) (v .table-is) .0;
+          matrix = matrix-of (matrixOffset t) (matrix-inside t (v .parts-good .matrix-good)) .0;
+          clut = clut-of (inputs t) (outputs t) refl refl few (tableIn t) (v .parts-good .table-good) .0;
         }
 
     taken : PartsTaken parts
     unfolding parts
     taken =
         record {
-          few-channels = few-back (inputs t) (outputs t) (v .few-channels);
+          few-channels = few-back (inputs t) (outputs t) (v .parts-good .few-channels);
           b-offset = below32 t b 12;
           matrix-offset = below32 t b 16;
           m-offset = below32 t b 20;
           clut-offset = below32 t b 24;
           a-offset = below32 t b 28;
-          matrix-fits = matrix-of (matrixOffset t) (matrix-inside t (v .matrix-good)) .1;
-          clut-fits = clut-of (inputs t) (outputs t) refl refl few (v .table) (v .table-is) .1;
+          matrix-fits = matrix-of (matrixOffset t) (matrix-inside t (v .parts-good .matrix-good)) .1;
+          clut-fits = clut-of (inputs t) (outputs t) refl refl few (tableIn t) (v .parts-good .table-good) .1;
         }
 
-    -- the table that was read is the one that is told
-    same-table : v .table ≡ table t parts taken
-    same-table = let q : good (v .table) ≡ good (table t parts taken) = sym (v .table-is) ∙ table-read t parts taken in cc
-
     frame : PartsAs t (abmOf walk limit t words)
-    frame =
-        record { parts = parts; taken = taken; answer-is = v .answer-is ∙ ap (λ (x : Table). valueFrom t (x .start) (lengthOf x) (x .size)) same-table ∙ value-told t parts taken }
+    frame = record { parts = parts; taken = taken; answer-is = v .answer-is ∙ value-told t parts taken }
 
     -- a run that is whole, and whose curves the walk steps over, is a set of curves
-    module _ (a-passes : Passes walk (runA walk limit t (planOf t) .curves)) (m-passes : Passes walk (runM walk limit t (planOf t) .curves)) (b-passes : Passes walk (runB walk limit t (planOf t) .curves)) where
+    module _ (a-passes : Passes walk (runA walk limit t .curves)) (m-passes : Passes walk (runM walk limit t .curves)) (b-passes : Passes walk (runB walk limit t .curves)) where
       counted : (at n : ℕ) → runAt walk limit t at n .end ≡ whole → (r : Standing limit t at (runAt walk limit t at n .curves)) → length (r .curves) ≡ n
       counted at n q r = sym (length-map (r .curves) seenOf) ∙ ap length (sym (r .seen)) ∙ run-count walk limit t at n q
 
@@ -375,31 +367,28 @@ module _ (t : List ℕ) (b : Bytes t) where
       set-from at n channels q r c = set-of at channels (r .curves) (r .stand) (counted at n q r ∙ c)
 
       ra : Standing limit t (aOffset t) (runAt walk limit t (aOffset t) (aCurves t) .curves)
-      unfolding planOf
       ra = run-written walk limit t b (aOffset t) (aCurves t) a-passes
 
       rm : Standing limit t (mOffset t) (runAt walk limit t (mOffset t) (mCurves t) .curves)
-      unfolding planOf
       rm = run-written walk limit t b (mOffset t) (mCurves t) m-passes
 
       rb : Standing limit t (bOffset t) (runAt walk limit t (bOffset t) (bCurves t) .curves)
-      unfolding planOf
       rb = run-written walk limit t b (bOffset t) (bCurves t) b-passes
 
       curves : LutCurves t head
-      unfolding planOf parts
+      unfolding parts
       curves =
           record {
             a = ra .curves;
             m = rm .curves;
             b = rb .curves;
-            a-set = set-from (aOffset t) (aCurves t) (curvesA head) (a-whole walk limit t (planOf t) (v .runs-good)) ra (a-counted t parts taken);
-            m-set = set-from (mOffset t) (mCurves t) (curvesMB head) (m-whole walk limit t (planOf t) (v .runs-good)) rm (m-counted t parts taken);
-            b-set = set-from (bOffset t) (bCurves t) (curvesMB head) (b-whole walk limit t (planOf t) (v .runs-good)) rb (b-counted t parts taken);
+            a-set = set-from (aOffset t) (aCurves t) (curvesA head) (v .parts-good .runs-whole .a-whole) ra (a-counted t parts taken);
+            m-set = set-from (mOffset t) (mCurves t) (curvesMB head) (v .parts-good .runs-whole .m-whole) rm (m-counted t parts taken);
+            b-set = set-from (bOffset t) (bCurves t) (curvesMB head) (v .parts-good .runs-whole .b-whole) rb (b-counted t parts taken);
           }
 
       curves-taken : CurvesTaken walk limit curves
-      unfolding planOf curves
+      unfolding curves
       curves-taken =
           record {
             a-fit = ra .fit;
@@ -410,14 +399,14 @@ module _ (t : List ℕ) (b : Bytes t) where
             b-passes = subst (Passes walk) (rb .seen) b-passes;
           }
 
-      back : (slots left : List ℕ) → let records : List ℕ = recordsOf (curvesOf walk limit t (planOf t)) in left ≡ records ++ drop (length records) slots → TagAs walk limit t (abmOf walk limit t words) slots left
+      back : (slots left : List ℕ) → let records : List ℕ = recordsOf (curvesOf walk limit t) in left ≡ records ++ drop (length records) slots → TagAs walk limit t (abmOf walk limit t words) slots left
       unfolding frame parts
       back slots left e =
           record { frame = frame; curves = curves; taken = curves-taken; slots-are = e ∙ ap (λ (x : List ℕ). x ++ drop (length x) slots) (written-records t parts taken walk limit curves curves-taken) }
 
 -- ---- a tag of a profile
 
-module _ (limit points : ℕ) (p : List ℕ) (entry size words : ℕ) (inside : entry + size ≤ length p) (long : 48 ≤ size) where
+module _ (limit points : ℕ) (p : List ℕ) (entry size words : ℕ) (inside : entry + size ≤ length p) (long : shortest ≤ size) where
   abbrev tagBytes : List ℕ
   tagBytes = take size (drop entry p)
 
@@ -426,7 +415,7 @@ module _ (limit points : ℕ) (p : List ℕ) (entry size words : ℕ) (inside : 
     unfolding lutOf byType isMft isWide signatureOf
     type-read d e =
         let some : size ≡ 0 → ⊥ = λ z. omega arith in
-        rw (ne-eqb size 0 some, le-ltb (length p) (entry + size) inside, le-ltb size 48 long, e) (by d)
+        rw (ne-eqb size 0 some, le-ltb (length p) (entry + size) inside, le-ltb size shortest long, e) (by d)
       where
         by : (d : Direction) → cond (eqb (signature d) 0x6d667431 || eqb (signature d) 0x6d667432) (fromMft (answerOf tagBytes (mftOf points tagBytes))) (cond (eqb (signature d) 0x6d414220 || eqb (signature d) 0x6d424120) (abmOf walk limit tagBytes words) (refuse 3)) ≡ abmOf walk limit tagBytes words
         by aToB = refl
@@ -451,7 +440,7 @@ module _ (limit points : ℕ) (p : List ℕ) (entry size words : ℕ) (inside : 
   unfolding lutOf byType
   mft-read walk e =
       let some : size ≡ 0 → ⊥ = λ z. omega arith in
-      rw (ne-eqb size 0 some, le-ltb (length p) (entry + size) inside, le-ltb size 48 long, e)
+      rw (ne-eqb size 0 some, le-ltb (length p) (entry + size) inside, le-ltb size shortest long, e)
 
   pub profile-read16 : (walk : Walk) (reserved reserved2 n m : ℕ) (l : Lut) (rest : List ℕ) → MftTaken points l → Entries16 n → Entries16 m → Sized n m l → tagBytes ≡ lut16Type reserved reserved2 n m l ++ rest → lutOf walk limit points p entry size words ≡ record { state = mft (fieldsTold16 n m l); grid = replicate 16 0; matrix = nine (l .matrix); bias = replicate 3 0 }
   unfolding isMft isWide signatureOf lut16Type
@@ -465,35 +454,32 @@ module _ (limit points : ℕ) (p : List ℕ) (entry size words : ℕ) (inside : 
 
 -- ---- what is answered of a profile is what the standard writes
 
-counted-is : (size : ℕ) → 48 ≤ countedSize size → countedSize size ≡ size
+counted-is : (size : ℕ) → shortest ≤ countedSize size → countedSize size ≡ size
 counted-is size = by (eqb size 0)
   where
-    by : (x : Bool) → 48 ≤ cond x 12 size → cond x 12 size ≡ size
+    by : (x : Bool) → shortest ≤ cond x tagSize size → cond x tagSize size ≡ size
     by true l = absurd (omega arith)
     by false l = refl
 
 -- a step over each curve by the records is one by the curves
-module _ (walk : Walk) (limit : ℕ) (t : List ℕ) (g : runsChecked walk limit t (planOf t) ≡ good tt) where
+module _ (walk : Walk) (limit : ℕ) (t : List ℕ) (g : RunsWhole walk limit t) where
   abbrev ca : List Placed
-  ca = runA walk limit t (planOf t) .curves
+  ca = runA walk limit t .curves
 
   abbrev cm : List Placed
-  cm = runM walk limit t (planOf t) .curves
+  cm = runM walk limit t .curves
 
   abbrev cb : List Placed
-  cb = runB walk limit t (planOf t) .curves
+  cb = runB walk limit t .curves
 
   a-long : length ca ≡ aCurves t
-  unfolding planOf
-  a-long = run-count walk limit t (aOffset t) (aCurves t) (a-whole walk limit t (planOf t) g)
+  a-long = run-count walk limit t (aOffset t) (aCurves t) (g .a-whole)
 
   m-long : length cm ≡ mCurves t
-  unfolding planOf
-  m-long = run-count walk limit t (mOffset t) (mCurves t) (m-whole walk limit t (planOf t) g)
+  m-long = run-count walk limit t (mOffset t) (mCurves t) (g .m-whole)
 
   b-long : length cb ≡ bCurves t
-  unfolding planOf
-  b-long = run-count walk limit t (bOffset t) (bCurves t) (b-whole walk limit t (planOf t) g)
+  b-long = run-count walk limit t (bOffset t) (bCurves t) (g .b-whole)
 
 -- a number of an answer
 abbrev numberIn : (Abm → ℕ) → Abm·State → ℕ
@@ -527,12 +513,12 @@ three-passes Crate a m b rest (ha, hm, hb) =
 -- the number of records, on every accepted call
 module _ (limit points : ℕ) (p : List ℕ) (entry size : ℕ) (walk : Walk) (words : ℕ) (f : Abm) (h : lutOf walk limit points p entry size words .state ≡ abm f) where
   pub profile-counts : Counts (take size (drop entry p)) f
-  unfolding valueFrom aCurves mCurves bCurves deviceChannels spaceChannels
+  unfolding valueOf aCurves mCurves bCurves deviceChannels spaceChannels
   profile-counts =
       let w = abm-found walk limit points p entry size words f h in
       let t : List ℕ = take (countedSize size) (drop entry p) in
       let v = w .behind in
-      let same : abm f ≡ valueFrom t (v .table .start) (lengthOf (v .table)) (v .table .size) .state = sym h ∙ ap (λ (a : Answer). a .state) (w .as-abm ∙ v .answer-is) in
+      let same : abm f ≡ valueOf t .state = sym h ∙ ap (λ (a : Answer). a .state) (w .as-abm ∙ v .answer-is) in
       let d : f .toPcs ≡ toPcs t = cc in
       let i : f .inputs ≡ inputs t = ap (numberIn (λ x. x .inputs)) same in
       let o : f .outputs ≡ outputs t = ap (numberIn (λ x. x .outputs)) same in
@@ -548,15 +534,15 @@ module _ (limit points : ℕ) (p : List ℕ) (b : Bytes p) (entry size : ℕ) wh
   module _ (walk : Walk) (words : ℕ) (f : Abm) (h : lutOf walk limit points p entry size words .state ≡ abm f) (few : 1 ≤ f .size → f .inputs ≤ 16) where
     -- the CLUT of the standard has grid points for sixteen input channels
     sixteen : let t : List ℕ = take (countedSize size) (drop entry p) in (clutOffset t ≡ 0 → ⊥) → inputs t ≤ 16
-    unfolding valueFrom
+    unfolding valueOf
     sixteen there =
         let w = abm-found walk limit points p entry size words f h in
         let t : List ℕ = take (countedSize size) (drop entry p) in
         let v = w .behind in
-        let same : abm f ≡ valueFrom t (v .table .start) (lengthOf (v .table)) (v .table .size) .state = sym h ∙ ap (λ (a : Answer). a .state) (w .as-abm ∙ v .answer-is) in
+        let same : abm f ≡ valueOf t .state = sym h ∙ ap (λ (a : Answer). a .state) (w .as-abm ∙ v .answer-is) in
         let i : f .inputs ≡ inputs t = ap (numberIn (λ x. x .inputs)) same in
-        let k : f .size ≡ v .table .size = ap (numberIn (λ x. x .size)) same in
-        omega (arith, i, k, few (omega (arith, k, table-sized t (v .table) (v .table-is) there)))
+        let k : f .size ≡ tableIn t .size = ap (numberIn (λ x. x .size)) same in
+        omega (arith, i, k, few (omega (arith, k, table-sized t (tableIn t) (v .parts-good .table-good) there)))
 
     -- the head, the matrix and the CLUT, on either walk
     pub profile-parts : (entry + size ≤ length p) × PartsAs tagIn (lutOf walk limit points p entry size words)
@@ -575,22 +561,22 @@ module _ (limit points : ℕ) (p : List ℕ) (b : Bytes p) (entry size : ℕ) wh
 
     -- and the curves, where the walk steps over each but the last of its set
     pub profile-written : (slots left : List ℕ) → length slots ≡ words → slotsAfter walk limit points p entry size slots ≡ left → PassesBy walk left (f .a) (f .m) (f .b) → (entry + size ≤ length p) × TagAs walk limit tagIn (lutOf walk limit points p entry size words) slots left
-    unfolding signatureOf valueFrom curvesOf
+    unfolding signatureOf valueOf curvesOf
     profile-written slots left n q pass =
         let w = abm-found walk limit points p entry size words f h in
         let k = counted-is size (w .long) in
         let t : List ℕ = take (countedSize size) (drop entry p) in
         let c : Bytes t = part-bytes p b entry (countedSize size) in
         let long : 32 ≤ length t = omega (arith, w .long, w .tag-in-profile, length-take (countedSize size) (drop entry p), length-drop entry p) in
-        let g = w .behind .runs-good in
-        let records : List ℕ = recordsOf (curvesOf walk limit t (planOf t)) in
+        let g = w .behind .parts-good .runs-whole in
+        let records : List ℕ = recordsOf (curvesOf walk limit t) in
         let rest : List ℕ = drop (length records) slots in
         let e : left ≡ records ++ rest = sym q ∙ rw (n, h) in
-        let same : abm f ≡ valueFrom t (w .behind .table .start) (lengthOf (w .behind .table)) (w .behind .table .size) .state = sym h ∙ ap (λ (a : Answer). a .state) (w .as-abm ∙ w .behind .answer-is) in
-        let fa : f .a ≡ aCurves t = ap (numberIn (λ x. x .a)) same in
-        let fm : f .m ≡ mCurves t = ap (numberIn (λ x. x .m)) same in
-        let fb : f .b ≡ bCurves t = ap (numberIn (λ x. x .b)) same in
-        let passed = three-passes walk (ca walk limit t g) (cm walk limit t g) (cb walk limit t g) rest (rw (a-long walk limit t g, m-long walk limit t g, b-long walk limit t g, ← fa, ← fm, ← fb, ← e) pass) in
+        let same : abm f ≡ valueOf t .state = sym h ∙ ap (λ (a : Answer). a .state) (w .as-abm ∙ w .behind .answer-is) in
+        let fa : f .a ≡ length (ca walk limit t g) = ap (numberIn (λ x. x .a)) same ∙ sym (a-long walk limit t g) in
+        let fm : f .m ≡ length (cm walk limit t g) = ap (numberIn (λ x. x .m)) same ∙ sym (m-long walk limit t g) in
+        let fb : f .b ≡ length (cb walk limit t g) = ap (numberIn (λ x. x .b)) same ∙ sym (b-long walk limit t g) in
+        let passed = three-passes walk (ca walk limit t g) (cm walk limit t g) (cb walk limit t g) rest (rw (← fa, ← fm, ← fb, ← e) pass) in
         let r : TagAs walk limit t (abmOf walk limit t words) slots left = elim (w .type-is) [
           | inl y ↦ back t c walk limit words aToB y long sixteen (w .behind) (passed .0) (passed .1) (passed .2) slots left e
           | inr y ↦ back t c walk limit words bToA y long sixteen (w .behind) (passed .0) (passed .1) (passed .2) slots left e

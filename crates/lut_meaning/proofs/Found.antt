@@ -1,14 +1,14 @@
 -- What stands behind a value: the tag lies in the profile and has one of the types; of `mAB ` and `mBA ` every part was good, and the slots
 -- sufficed.
 -- Assumes nothing.
-use Prim.Native.Nat.{ℕ, _+_, _/_, _≤_}
+use Prim.Native.Nat.{ℕ, _+_, _/_, _≤_, _<_}
 use mathlib.Core.Path.{_≡_, refl, sym, _∙_, ap}
 use mathlib.Core.Bool.{Bool, true, false, _&&_, _||_}
 use mathlib.Core.List.{List}
 use mathlib.Core.Logic.{_⊎_, inl, inr}
 use lib.Dec.{ltb, eqb}
 use lib.ListN.{length}
-use borrow.Author.Tests.{ltb-false, eqb-true}
+use borrow.Author.Tests.{ltb-true, ltb-false, eqb-true}
 use Rattle.fields.proofs.Never.{never}
 use Rattle.fields.specs.Checked.{Checked, good, bad}
 use Rattle.fields.specs.Place.{countedSize}
@@ -16,17 +16,18 @@ use Rattle.fields.specs.Bytes.{u32At}
 use Rattle.fields.specs.Tag.{signatureOf}
 use Rattle.fields.specs.declared.Kind.the-variants.{Mab, Mba}
 use Rattle.fields.proofs.Choice.{each}
-use Rattle.lut_clut_meaning.specs.Table.{Table, lengthOf}
 use Rattle.curve_meaning.specs.Shape.{recordWords}
 use Rattle.curve_meaning.specs.declared.Walk.{Walk}
 use Rattle.lut_mft_meaning.specs.Answer.{Fields, State as Mft·State, answerOf}
-use Rattle.lut_mft_meaning.specs.Layout.{isMft}
+use Rattle.lut_mft_meaning.specs.Layout.{isMft, shortest}
 use Rattle.lut_mft_meaning.specs.Mft.{mftOf}
-use Rattle.lut_meaning.specs.Abm.{colourTableOf, valueFrom, recordedOf, checkedOf, withTable, abmOf}
-use Rattle.lut_meaning.specs.Answer.{Abm, State, mft, abm, absent, refused, Answer, fromMft, orRefused}
-use Rattle.lut_meaning.specs.Layout.{inputs, outputs, planOf, recordsNeeded}
+use Rattle.lut_run_meaning.specs.Run.{runAt}
+use Rattle.lut_meaning.specs.Abm.{valueOf, abmOf}
+use Rattle.lut_meaning.specs.Answer.{Abm, State, mft, abm, absent, refused, Answer, none, refuse, fromMft, orRefused}
+use Rattle.lut_meaning.specs.Layout.{inputs, outputs, aOffset, mOffset, bOffset, aCurves, mCurves, bCurves, recordsNeeded}
 use Rattle.lut_meaning.specs.Lut.{tagOf, isAbm, byType, lutOf}
-use Rattle.lut_meaning.specs.Parts.{runsChecked, matrixChecked}
+use Rattle.lut_meaning.specs.Parts.{matrixChecked, tableIn, colourTableOf, runA, runM, runB, ended, RunsWhole}
+use Rattle.lut_meaning.proofs.Shared.{ended-good, table-in}
 
 -- a value, of either kind
 unfoldable pub IsValue : State → Type 0
@@ -49,54 +50,69 @@ not-refused e v = absurd (rw e at v)
 
 -- ---- `mAB ` and `mBA `
 
-module _ (walk : Walk) (limit : ℕ) (t : List ℕ) (words : ℕ) where
-  pub record Accepted (a : Answer) : Type 0 where
+-- what holds of a refusal with the number of a check that is bad, and of what follows one that is good
+pub passed : {A : Type 0} (P : Answer → Type 0) (c : Checked A) (a : Answer) → ((n : ℕ) → c ≡ bad n → P (refuse n)) → ((x : A) → c ≡ good x → P a) → P (orRefused c a)
+passed P (good x) a f g = g x refl
+passed P (bad n) a f g = f n refl
+
+module _ (walk : Walk) (limit : ℕ) (t : List ℕ) where
+  -- every part of the tag is good
+  pub record AllGood : Type 0 where
     pub few-channels : ltb 4 (inputs t) && ltb 4 (outputs t) ≡ false
     pub matrix-good : matrixChecked t ≡ good tt
-    pub table : Table
-    pub table-is : colourTableOf t ≡ good table
-    pub runs-good : runsChecked walk limit t (planOf t) ≡ good tt
-    pub room : recordsNeeded t ≤ words / recordWords
-    pub answer-is : a ≡ valueFrom t (table .start) (lengthOf table) (table .size)
+    pub table-good : colourTableOf t ≡ good (tableIn t)
+    pub runs-whole : RunsWhole walk limit t
 
-  -- of an answer that is a value
-  abbrev Behind : Answer → Type 0
-  Behind a = IsValue (a .state) → Accepted a
+  -- a part is refused with n
+  pub data PartRefused (n : ℕ) : Type 0 where
+    the-matrix : matrixChecked t ≡ bad n → PartRefused n
+    the-table : colourTableOf t ≡ bad n → PartRefused n
+    a-run : (at m : ℕ) → ended (runAt walk limit t at m .end) ≡ bad n → PartRefused n
 
-  judged-behind : ltb 4 (inputs t) && ltb 4 (outputs t) ≡ false → matrixChecked t ≡ good tt → (table : Table) → colourTableOf t ≡ good table → (j : Checked Unit) → runsChecked walk limit t (planOf t) ≡ j → Behind (orRefused j (recordedOf t words (table .start) (lengthOf table) (table .size)))
-  unfolding recordedOf
-  judged-behind few m table e (good _) r =
-      each Behind (ltb (words / recordWords) (recordsNeeded t)) _ _ (λ _ v. not-refused refl v)
-      (λ l v. record { few-channels = few; matrix-good = m; table = table; table-is = e; runs-good = r; room = ltb-false (words / recordWords) (recordsNeeded t) l; answer-is = refl })
-  judged-behind few m table e (bad n) r = λ v. not-refused refl v
+  module _ (words : ℕ) where
+    -- what holds of each way out holds of the answer: the one walk down the ladder
+    pub ways-out : (P : Answer → Type 0) → P none → ((n : ℕ) → PartRefused n → P (refuse n)) → (AllGood → words / recordWords < recordsNeeded t → P (refuse 14)) → (AllGood → recordsNeeded t ≤ words / recordWords → P (valueOf t)) → P (abmOf walk limit t words)
+    unfolding abmOf
+    ways-out P missing refused-so short value =
+        each P (ltb 4 (inputs t) && ltb 4 (outputs t)) _ _ (λ _. missing)
+        (λ few. passed P (matrixChecked t) _ (λ n e. refused-so n (the-matrix e))
+        (λ _ m. passed P (colourTableOf t) _ (λ n e. refused-so n (the-table e))
+        (λ table c. passed P (ended (runA walk limit t .end)) _ (λ n e. refused-so n (a-run (aOffset t) (aCurves t) e))
+        (λ _ ea. passed P (ended (runM walk limit t .end)) _ (λ n e. refused-so n (a-run (mOffset t) (mCurves t) e))
+        (λ _ em. passed P (ended (runB walk limit t .end)) _ (λ n e. refused-so n (a-run (bOffset t) (bCurves t) e))
+        (λ _ eb.
+        let g : AllGood =
+        record {
+          few-channels = few;
+          matrix-good = m;
+          table-good = c ∙ ap good (sym (table-in t table c));
+          runs-whole = record { a-whole = ended-good _ ea; m-whole = ended-good _ em; b-whole = ended-good _ eb };
+        } in
+        each P (ltb (words / recordWords) (recordsNeeded t)) _ _ (λ l. short g (ltb-true _ _ l)) (λ l. value g (ltb-false _ _ l))))))))
 
-  table-behind : ltb 4 (inputs t) && ltb 4 (outputs t) ≡ false → matrixChecked t ≡ good tt → (x : Checked Table) → colourTableOf t ≡ x → Behind (withTable walk limit t words x)
-  unfolding checkedOf
-  table-behind few m (good table) e = judged-behind few m table e (runsChecked walk limit t (planOf t)) refl
-  table-behind few m (bad n) e = λ v. not-refused refl v
+    pub record Accepted (a : Answer) : Type 0 where
+      pub parts-good : AllGood
+      pub room : recordsNeeded t ≤ words / recordWords
+      pub answer-is : a ≡ valueOf t
 
-  matrix-behind : ltb 4 (inputs t) && ltb 4 (outputs t) ≡ false → (j : Checked Unit) → matrixChecked t ≡ j → Behind (orRefused j (withTable walk limit t words (colourTableOf t)))
-  matrix-behind few (good _) m = table-behind few m (colourTableOf t) refl
-  matrix-behind few (bad n) m = λ v. not-refused refl v
-
-  pub accepted : IsValue (abmOf walk limit t words .state) → Accepted (abmOf walk limit t words)
-  unfolding abmOf IsValue
-  accepted =
-      each Behind (ltb 4 (inputs t) && ltb 4 (outputs t)) _ _ (λ _ v. absurd v)
-      (λ few. matrix-behind few (matrixChecked t) refl)
+    pub accepted : IsValue (abmOf walk limit t words .state) → Accepted (abmOf walk limit t words)
+    unfolding IsValue
+    accepted =
+        ways-out (λ a. IsValue (a .state) → Accepted a) (λ v. absurd v) (λ n _ v. absurd v) (λ _ _ v. absurd v)
+        (λ g l v. record { parts-good = g; room = l; answer-is = refl })
 
 -- ---- a tag in its profile
 
 module _ (walk : Walk) (limit points : ℕ) (p : List ℕ) (entry size words : ℕ) where
   abbrev FoundIn : Answer → Type 0
-  FoundIn a = IsValue (a .state) → (entry + countedSize size ≤ length p) × (48 ≤ countedSize size) × (a ≡ byType walk limit points (tagOf p entry size) words)
+  FoundIn a = IsValue (a .state) → (entry + countedSize size ≤ length p) × (shortest ≤ countedSize size) × (a ≡ byType walk limit points (tagOf p entry size) words)
 
   pub in-profile : FoundIn (lutOf walk limit points p entry size words)
   unfolding lutOf
   in-profile =
       each FoundIn (ltb (length p) (entry + countedSize size)) _ _ (λ _ v. not-refused refl v)
-      (λ l. each FoundIn (ltb (countedSize size) 48) _ _ (λ _ v. not-refused refl v)
-      (λ m v. (ltb-false (length p) (entry + countedSize size) l, ltb-false (countedSize size) 48 m, refl)))
+      (λ l. each FoundIn (ltb (countedSize size) shortest) _ _ (λ _ v. not-refused refl v)
+      (λ m v. (ltb-false (length p) (entry + countedSize size) l, ltb-false (countedSize size) shortest m, refl)))
 
 -- ---- by its type
 
@@ -121,7 +137,7 @@ mft-read t (Mft·State.refused n) f h = never cc
 module _ (walk : Walk) (limit points : ℕ) (t : List ℕ) (words : ℕ) where
   -- and what `mAB ` and `mBA ` give is theirs
   abm-only : (f : Fields) → abmOf walk limit t words .state ≡ mft f → ⊥
-  unfolding valueFrom
+  unfolding valueOf
   abm-only f h =
       let v = accepted walk limit t words (mft-value h) in
       let e = ap (λ (a : Answer). a .state) (sym (v .answer-is)) ∙ h in
@@ -153,7 +169,7 @@ module _ (walk : Walk) (limit points : ℕ) (p : List ℕ) (entry size words : �
 
   pub record AbmFound : Type 0 where
     pub tag-in-profile : entry + countedSize size ≤ length p
-    pub long : 48 ≤ countedSize size
+    pub long : shortest ≤ countedSize size
     pub type-is : (u32At (tagOf p entry size) 0 ≡ signatureOf Mab) ⊎ (u32At (tagOf p entry size) 0 ≡ signatureOf Mba)
     pub as-abm : answer ≡ abmOf walk limit (tagOf p entry size) words
     pub behind : Accepted walk limit (tagOf p entry size) words (abmOf walk limit (tagOf p entry size) words)

@@ -30,11 +30,11 @@ use Rattle.lut_mft_meaning.specs.Answer.{Fields, answerOf}
 use Rattle.lut_mft_meaning.proofs.Inside.{Inside as MftInside, inside as inside-mft}
 use Rattle.lut_run_meaning.specs.Run.{Placed, CurveStands}
 use Rattle.lut_run_meaning.proofs.Runs.{run-inside}
-use Rattle.lut_meaning.specs.Abm.{noTable, colourTableOf, valueFrom, toldTable, abmOf}
+use Rattle.lut_meaning.specs.Abm.{valueOf, toldTable}
 use Rattle.lut_meaning.specs.Answer.{Abm, mft, abm, Answer}
-use Rattle.lut_meaning.specs.Layout.{recordsNeeded, toPcs, inputs, outputs, matrixOffset, clutOffset, aOffset, mOffset, bOffset, aCurves, mCurves, bCurves, planOf, identity, matrixOf, biasOf, gridOf}
+use Rattle.lut_meaning.specs.Layout.{recordsNeeded, toPcs, inputs, outputs, matrixOffset, matrixBytes, biasFrom, clutOffset, aOffset, mOffset, bOffset, aCurves, mCurves, bCurves, identity, matrixOf, biasOf, gridOf}
 use Rattle.lut_meaning.specs.Lut.{tagOf, lutOf}
-use Rattle.lut_meaning.specs.Parts.{curvesOf, matrixChecked}
+use Rattle.lut_meaning.specs.Parts.{matrixChecked, noTable, tableIn, colourTableOf, curvesOf}
 use Rattle.lut_meaning.proofs.Found.{abm-found, mft-found}
 use Rattle.lut_meaning.proofs.Needed.{needed-curves}
 
@@ -44,31 +44,31 @@ each-append P [] m x y = y
 each-append P (c ∷ k) m x y = (x .0, each-append P k m (x .1) y)
 
 -- every curve that a walk meets stands in the tag
-pub curves-inside : (walk : Walk) (limit : ℕ) (t : List ℕ) → Each (CurveStands limit t) (curvesOf walk limit t (planOf t))
-unfolding curvesOf planOf
+pub curves-inside : (walk : Walk) (limit : ℕ) (t : List ℕ) → Each (CurveStands limit t) (curvesOf walk limit t)
+unfolding curvesOf
 curves-inside walk limit t =
     each-append _ _ _ (each-append _ _ _ (run-inside walk limit t (aOffset t) (aCurves t)) (run-inside walk limit t (mOffset t) (mCurves t))) (run-inside walk limit t (bOffset t) (bCurves t))
 
 -- a matrix that is good is not there, or lies in the tag
-pub matrix-inside : (t : List ℕ) → matrixChecked t ≡ good tt → (matrixOffset t ≡ 0) ⊎ (matrixOffset t + 48 ≤ length t)
+pub matrix-inside : (t : List ℕ) → matrixChecked t ≡ good tt → (matrixOffset t ≡ 0) ⊎ (matrixOffset t + matrixBytes ≤ length t)
 unfolding matrixChecked
 matrix-inside t =
-    let P : Checked Unit → Type 0 = λ j. j ≡ good tt → (matrixOffset t ≡ 0) ⊎ (matrixOffset t + 48 ≤ length t) in
+    let P : Checked Unit → Type 0 = λ j. j ≡ good tt → (matrixOffset t ≡ 0) ⊎ (matrixOffset t + matrixBytes ≤ length t) in
     each P (eqb (matrixOffset t) 0) _ _ (λ e h. inl (eqb-true (matrixOffset t) 0 e))
-    (λ _. each P (ltb (length t) (matrixOffset t + 48)) _ _ (λ _ h. never cc)
-    (λ f h. inr (ltb-false (length t) (matrixOffset t + 48) f)))
+    (λ _. each P (ltb (length t) (matrixOffset t + matrixBytes)) _ _ (λ _ h. never cc)
+    (λ f h. inr (ltb-false (length t) (matrixOffset t + matrixBytes) f)))
 
 -- a matrix and a bias that are answered: none, or those that stand there
 abbrev pub MatrixTold : List ℕ → List ℕ → List ℕ → Type 0
 MatrixTold t matrix bias =
     ((matrixOffset t ≡ 0) × (matrix ≡ identity) × (bias ≡ replicate 3 0))
-    ⊎ ((matrixOffset t ≡ 0 → ⊥) × (matrixOffset t + 48 ≤ length t) × (matrix ≡ wordsAt t (matrixOffset t) 9) × (bias ≡ wordsAt t (matrixOffset t + 36) 3))
+    ⊎ ((matrixOffset t ≡ 0 → ⊥) × (matrixOffset t + matrixBytes ≤ length t) × (matrix ≡ wordsAt t (matrixOffset t) 9) × (bias ≡ wordsAt t (matrixOffset t + biasFrom) 3))
 
 pub matrix-told : (t : List ℕ) → matrixChecked t ≡ good tt → MatrixTold t (matrixOf t) (biasOf t)
 unfolding matrixOf biasOf
 matrix-told t g = by (eqb (matrixOffset t) 0) refl (matrix-inside t g)
   where
-    by : (b : Bool) → eqb (matrixOffset t) 0 ≡ b → (matrixOffset t ≡ 0) ⊎ (matrixOffset t + 48 ≤ length t) → MatrixTold t (cond b identity (wordsAt t (matrixOffset t) 9)) (cond b (replicate 3 0) (wordsAt t (matrixOffset t + 36) 3))
+    by : (b : Bool) → eqb (matrixOffset t) 0 ≡ b → (matrixOffset t ≡ 0) ⊎ (matrixOffset t + matrixBytes ≤ length t) → MatrixTold t (cond b identity (wordsAt t (matrixOffset t) 9)) (cond b (replicate 3 0) (wordsAt t (matrixOffset t + biasFrom) 3))
     by true e h = inl (eqb-true (matrixOffset t) 0 e, refl, refl)
     by false e (inl z) = absurd (eqb-false (matrixOffset t) 0 e z)
     by false e (inr l) = inr (eqb-false (matrixOffset t) 0 e, l, refl, refl)
@@ -142,8 +142,8 @@ direction-told t (inr e) = inr (e, ne-eqb (u32At t 0) (signatureOf Mab) (λ z. o
 -- ---- `mAB ` and `mBA `, told of the answer's own numbers
 pub record Inside (walk : Walk) (limit : ℕ) (p : List ℕ) (entry size : ℕ) (a : Answer) (f : Abm) : Type 0 where
   pub tag-in-profile : entry + countedSize size ≤ length p
-  pub curves-in-tag : Each (CurveStands limit (tagOf p entry size)) (curvesOf walk limit (tagOf p entry size) (planOf (tagOf p entry size)))
-  pub curves-counted : length (curvesOf walk limit (tagOf p entry size) (planOf (tagOf p entry size))) ≡ f .a + f .m + f .b
+  pub curves-in-tag : Each (CurveStands limit (tagOf p entry size)) (curvesOf walk limit (tagOf p entry size))
+  pub curves-counted : length (curvesOf walk limit (tagOf p entry size)) ≡ f .a + f .m + f .b
   pub direction-is : DirectionTold (tagOf p entry size) (f .toPcs)
   pub inputs-are : f .inputs ≡ inputs (tagOf p entry size)
   pub outputs-are : f .outputs ≡ outputs (tagOf p entry size)
@@ -157,18 +157,18 @@ pub record Inside (walk : Walk) (limit : ℕ) (p : List ℕ) (entry size : ℕ) 
   pub entry-in-table : 1 ≤ f .size → (index : List ℕ) (channel : ℕ) → inGrid (toldTable (a .grid) f .grid) index ≡ true → channel < f .outputs → entryNumber (toldTable (a .grid) f) index channel * f .size + f .size ≤ f .bytes
 
 pub lut-inside : (walk : Walk) (limit points : ℕ) (p : List ℕ) (entry size words : ℕ) (f : Abm) → lutOf walk limit points p entry size words .state ≡ abm f → Inside walk limit p entry size (lutOf walk limit points p entry size words) f
-unfolding valueFrom recordsNeeded
+unfolding valueOf recordsNeeded
 lut-inside walk limit points p entry size words f h =
     let t : List ℕ = tagOf p entry size in
     let w = abm-found walk limit points p entry size words f h in
-    let g : abmOf walk limit t words .state ≡ abm f = ap (λ (a : Answer). a .state) (sym (w .as-abm)) ∙ h in
-    let v = w .behind in
-    let said = w .as-abm ∙ v .answer-is in
-    let e : abm f ≡ valueFrom t (v .table .start) (lengthOf (v .table)) (v .table .size) .state = sym g ∙ ap (λ (a : Answer). a .state) (v .answer-is) in
+    let v = w .behind .parts-good in
+    let table : Table = tableIn t in
+    let said = w .as-abm ∙ w .behind .answer-is in
+    let e : abm f ≡ valueOf t .state = sym h ∙ ap (λ (a : Answer). a .state) said in
     let e₀ : f .toPcs ≡ toPcs t = cc in
-    let e₁ : f .start ≡ v .table .start = cc in
-    let e₂ : f .bytes ≡ lengthOf (v .table) = cc in
-    let e₃ : f .size ≡ v .table .size = cc in
+    let e₁ : f .start ≡ table .start = cc in
+    let e₂ : f .bytes ≡ lengthOf table = cc in
+    let e₃ : f .size ≡ table .size = cc in
     let e₄ : f .inputs ≡ inputs t = cc in
     let e₅ : f .outputs ≡ outputs t = cc in
     let e₆ : f .a ≡ aCurves t = cc in
@@ -177,23 +177,23 @@ lut-inside walk limit points p entry size words f h =
     let grid : List ℕ = lutOf walk limit points p entry size words .grid in
     let g₁ : grid ≡ gridOf t = ap (λ (a : Answer). a .grid) said in
     let told : 1 ≤ f .size → lengthOf (toldTable grid f) ≡ f .bytes =
-    λ l. let k = table-told t (v .table) (v .table-is) (omega (arith, e₃)) in
+    λ l. let k = table-told t table (v .table-good) (omega (arith, e₃)) in
     let same : take (min (f .inputs) 16) grid ≡ take (min (inputs t) 16) (gridOf t) = cc in
-    told-length grid f (v .table) (same ∙ k .0) (e₅ ∙ k .1) e₃ ∙ sym e₂ in
+    told-length grid f table (same ∙ k .0) (e₅ ∙ k .1) e₃ ∙ sym e₂ in
     record {
       tag-in-profile = w .tag-in-profile;
       curves-in-tag = curves-inside walk limit t;
-      curves-counted = omega (arith, e₆, e₇, e₈, needed-curves walk limit t (v .runs-good));
+      curves-counted = omega (arith, e₆, e₇, e₈, needed-curves walk limit t (v .runs-whole));
       direction-is = rw e₀ (direction-told t (w .type-is));
       inputs-are = e₄;
       outputs-are = e₅;
       matrix-is = rw said (matrix-told t (v .matrix-good));
-      table = v .table;
-      grid-is = rw said (grid-told t (v .table) (v .table-is));
+      table = table;
+      grid-is = rw said (grid-told t table (v .table-good));
       start-is = e₁;
       bytes-are = e₂;
       size-is = e₃;
-      table-in-tag = omega (arith, e₁, e₂, table-inside t (v .table) (v .table-is));
+      table-in-tag = omega (arith, e₁, e₂, table-inside t table (v .table-good));
       entry-in-table = λ l index channel valid low. omega (arith, entry-below (toldTable grid f) index channel valid low, told l);
     }
 

@@ -4,6 +4,7 @@ pub mod Unique
 pub mod Needed
 pub mod Inside
 pub mod More
+pub mod Refuses
 pub mod Last
 pub mod Conforms
 pub mod Cases

@@ -8,21 +8,19 @@ use mathlib.Core.List.{List, _++_}
 use lib.Dec.{ltb, eqb}
 use lib.ListN.{length, length-append, List·getD-append}
 use borrow.Author.Tests.{ltb-false}
-use Rattle.fields.specs.Checked.{good}
 use Rattle.fields.proofs.Append.{u32-append}
 use Rattle.fields.proofs.Choice.{each, second-fails}
 use Rattle.curve_meaning.specs.declared.Walk.{Walk}
 use Rattle.lut_run_meaning.proofs.Runs.{run-count}
-use Rattle.lut_meaning.specs.Layout.{toPcs, inputs, outputs, present, deviceChannels, spaceChannels, aOffset, mOffset, bOffset, aCurves, mCurves, bCurves, planOf, recordsNeeded}
-use Rattle.lut_meaning.specs.Parts.{runsChecked, curvesOf}
-use Rattle.lut_meaning.proofs.Shared.{a-whole, m-whole, b-whole}
+use Rattle.lut_meaning.specs.Layout.{toPcs, inputs, outputs, present, deviceChannels, spaceChannels, aOffset, mOffset, bOffset, aCurves, mCurves, bCurves, recordsNeeded}
+use Rattle.lut_meaning.specs.Parts.{RunsWhole, curvesOf}
 
 -- as many records as curves
-pub needed-curves : (walk : Walk) (limit : ℕ) (t : List ℕ) → runsChecked walk limit t (planOf t) ≡ good tt → length (curvesOf walk limit t (planOf t)) ≡ recordsNeeded t
-unfolding curvesOf planOf recordsNeeded
-needed-curves walk limit t h =
+pub needed-curves : (walk : Walk) (limit : ℕ) (t : List ℕ) → RunsWhole walk limit t → length (curvesOf walk limit t) ≡ recordsNeeded t
+unfolding curvesOf recordsNeeded
+needed-curves walk limit t w =
     simp length-append
-    (omega (arith, run-count walk limit t (aOffset t) (aCurves t) (a-whole walk limit t (planOf t) h), run-count walk limit t (mOffset t) (mCurves t) (m-whole walk limit t (planOf t) h), run-count walk limit t (bOffset t) (bCurves t) (b-whole walk limit t (planOf t) h)))
+    (omega (arith, run-count walk limit t (aOffset t) (aCurves t) (w .a-whole), run-count walk limit t (mOffset t) (mCurves t) (w .m-whole), run-count walk limit t (bOffset t) (bCurves t) (w .b-whole)))
 
 -- ---- at most 514
 

@@ -79,7 +79,7 @@ abbrev pub fromMft : Mft·Answer → Answer
 fromMft a = record { state = mftState (a .state); grid = replicate 16 0; matrix = a .matrix; bias = replicate 3 0 }
 
 -- a part that is refused refuses the tag
-abbrev pub orRefused : Checked Unit → Answer → Answer
+abbrev pub orRefused : {A : Type 0} → Checked A → Answer → Answer
 orRefused (good _) a = a
 orRefused (bad n) a = refuse n
 

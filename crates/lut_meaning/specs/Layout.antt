@@ -12,8 +12,7 @@
 --   28 to 31  offset of the A curves
 --
 -- Offsets count from the tag's first byte; an element whose offset is 0 is not there.
-use Prim.Native.Nat.{ℕ, _+_, _<_}
-use mathlib.Core.Path.{_≡_}
+use Prim.Native.Nat.{ℕ, _+_}
 use mathlib.Core.Bool.{Bool, cond}
 use mathlib.Core.List.{List, [], _∷_}
 use lib.Dec.{eqb}
@@ -21,7 +20,6 @@ use lib.ListN.{getD, replicate}
 use Rattle.fields.specs.Bytes.{u32At, bytesAt, wordsAt}
 use Rattle.fields.specs.Tag.{signatureOf}
 use Rattle.fields.specs.declared.Kind.the-variants.{Mab}
-use Rattle.lut_meaning.specs.declared.Plan.{Plan}
 
 -- towards the connection space, 'mAB ', or away from it, 'mBA '
 abbrev pub toPcs : List ℕ → Bool
@@ -68,27 +66,17 @@ mCurves t = present (mOffset t) (spaceChannels t)
 unfoldable pub bCurves : List ℕ → ℕ
 bCurves t = present (bOffset t) (spaceChannels t)
 
--- r is that number of curves, and a byte holds it
-pub record Few (n r : ℕ) : Type 0 where
-  pub is : r ≡ n
-  pub few : r < 256
-
--- where the three runs start, and how many curves each has
-unfoldable pub planOf : List ℕ → Plan
-planOf t =
-    record { a = record { 0 = aOffset t }; na = aCurves t; m = record { 0 = mOffset t }; nm = mCurves t; b = record { 0 = bOffset t }; nb = bCurves t }
-
-pub record Planned (t : List ℕ) (p : Plan) : Type 0 where
-  pub is : p ≡ planOf t
-  pub a-few : p .na < 256
-  pub m-few : p .nm < 256
-  pub b-few : p .nb < 256
-
 -- how many records a tag needs, from its first 32 bytes
 unfoldable pub recordsNeeded : List ℕ → ℕ
 recordsNeeded t = aCurves t + mCurves t + bCurves t
 
--- the matrix, nine numbers, and behind it three bias numbers; a matrix that is not there is the identity
+-- the matrix, nine numbers, and behind it three bias numbers, all of four bytes; a matrix that is not there is the identity
+abbrev pub matrixBytes : ℕ
+matrixBytes = 48
+
+abbrev pub biasFrom : ℕ
+biasFrom = 36
+
 abbrev pub identity : List ℕ
 identity = 65536 ∷ 0 ∷ 0 ∷ 0 ∷ 65536 ∷ 0 ∷ 0 ∷ 0 ∷ 65536 ∷ []
 
@@ -96,7 +84,7 @@ unfoldable pub matrixOf : List ℕ → List ℕ
 matrixOf t = cond (eqb (matrixOffset t) 0) identity (wordsAt t (matrixOffset t) 9)
 
 unfoldable pub biasOf : List ℕ → List ℕ
-biasOf t = cond (eqb (matrixOffset t) 0) (replicate 3 0) (wordsAt t (matrixOffset t + 36) 3)
+biasOf t = cond (eqb (matrixOffset t) 0) (replicate 3 0) (wordsAt t (matrixOffset t + biasFrom) 3)
 
 -- the sixteen grid bytes as they stand, zeros without a CLUT
 unfoldable pub gridOf : List ℕ → List ℕ

@@ -1,4 +1,3 @@
-pub mod Checks
 pub mod Layout
 pub mod Parts
 pub mod Answer

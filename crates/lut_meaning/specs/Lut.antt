@@ -11,12 +11,11 @@ use Rattle.fields.specs.Tag.{signatureOf}
 use Rattle.fields.specs.declared.Kind.the-variants.{Mab, Mba}
 use Rattle.curve_meaning.specs.declared.Walk.{Walk}
 use Rattle.lut_mft_meaning.specs.Answer.{answerOf}
-use Rattle.lut_mft_meaning.specs.Layout.{isMft}
+use Rattle.lut_mft_meaning.specs.Layout.{isMft, shortest}
 use Rattle.lut_mft_meaning.specs.Mft.{mftOf}
 use Rattle.lut_run_meaning.specs.Run.{recordsOf}
 use Rattle.lut_meaning.specs.Abm.{abmOf}
 use Rattle.lut_meaning.specs.Answer.{Answer, refuse, fromMft, inNumbers, slotsWith}
-use Rattle.lut_meaning.specs.Layout.{planOf}
 use Rattle.lut_meaning.specs.Parts.{curvesOf}
 use Rattle.lut_meaning.specs.declared.Lut.{Lut}
 
@@ -38,16 +37,16 @@ byType walk limit points t words =
 unfoldable pub lutOf : Walk → ℕ → ℕ → List ℕ → ℕ → ℕ → ℕ → Answer
 lutOf walk limit points profile entry size words =
     cond (ltb (length profile) (entry + countedSize size)) (refuse 1) (
-    cond (ltb (countedSize size) 48) (refuse 2) (
+    cond (ltb (countedSize size) shortest) (refuse 2) (
     byType walk limit points (tagOf profile entry size) words))
 
 -- what such a call leaves of the lent slots
 abbrev pub slotsAfter : Walk → ℕ → ℕ → List ℕ → ℕ → ℕ → List ℕ → List ℕ
 slotsAfter walk limit points profile entry size slots =
     let t = tagOf profile entry size in
-    slotsWith (lutOf walk limit points profile entry size (length slots) .state) (recordsOf (curvesOf walk limit t (planOf t))) slots
+    slotsWith (lutOf walk limit points profile entry size (length slots) .state) (recordsOf (curvesOf walk limit t)) slots
 
 -- what a call answers, and what it leaves of the lent slots
 pub record AnswerAndSlots (walk : Walk) (limit : ℕ) (t : List ℕ) (answer : Answer) (r : Lut) (before after : List ℕ) : Type 0 where
   pub answer-is : inNumbers r ≡ answer
-  pub slots-are : after ≡ slotsWith (answer .state) (recordsOf (curvesOf walk limit t (planOf t))) before
+  pub slots-are : after ≡ slotsWith (answer .state) (recordsOf (curvesOf walk limit t)) before

@@ -33,13 +33,3 @@ pub struct Lut {
     pub matrix: [u32; 9],
     pub bias: [u32; 3],
 }
-
-// Where the runs A, M and B start, and how many curves each has.
-pub struct Plan {
-    pub a: InTag,
-    pub na: u32,
-    pub m: InTag,
-    pub nm: u32,
-    pub b: InTag,
-    pub nb: u32,
-}

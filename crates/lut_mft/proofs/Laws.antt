@@ -21,8 +21,8 @@ use Rattle.fields.specs.declared.Kind.the-variants.{Mft1}
 use Rattle.fields.specs.declared.Refusal.{Refusal}
 use Rattle.fields.proofs.Choice.{neither-left, neither-right}
 use Rattle.lut_mft_meaning.specs.Answer.{State, value, refused, stateFrom, fieldsOf, answerOf}
-use Rattle.lut_mft_meaning.specs.Layout.{isWide, isMft, inputs, outputs, gridPoints, inputEntries, outputEntries, entrySize, tablesStart, entriesAt, colourTable}
-use Rattle.lut_mft_meaning.specs.Mft.{outside, badEntries, badChannels, badNumbers, tablesOf, numbersOf, mftOf}
+use Rattle.lut_mft_meaning.specs.Layout.{isWide, isMft, shortest, inputs, outputs, gridPoints, inputEntries, outputEntries, entrySize, tablesStart, entriesAt, colourTable}
+use Rattle.lut_mft_meaning.specs.Mft.{outside, mostTableEntries, badEntries, badChannels, badNumbers, tablesOf, numbersOf, mftOf}
 use Rattle.lut_mft_meaning.specs.declared.MftAnswer.{MftAnswer}
 use Rattle.lut_mft_meaning.specs.declared.MftTable.{MftTable}
 use Rattle.lut_mft_meaning.proofs.Inside.{power-most}
@@ -51,7 +51,7 @@ module _ (t : List ℕ) (b : Bool) (e : b ≡ isWide t) where
   unfolding tablesStart
   start-wide w = rw (← e, w)
 
-  pub start-narrow : b ≡ false → 48 ≡ tablesStart t
+  pub start-narrow : b ≡ false → shortest ≡ tablesStart t
   unfolding tablesStart
   start-narrow w = rw (← e, w)
 
@@ -70,12 +70,12 @@ module _ (low x high : ℕ) where
 
 pub ruleset outside-laws = (outside-low, outside-high)
 
-module _ (t : List ℕ) (n : ℕ) (en : n ≡ entriesAt t 48) (b : Bool) (e : b ≡ outside 2 n 4096) where
+module _ (t : List ℕ) (n : ℕ) (en : n ≡ inputEntries t) (b : Bool) (e : b ≡ outside 2 n mostTableEntries) where
   pub entries-first : b ≡ true → true ≡ badEntries t
   unfolding badEntries
   entries-first w = rw (← en, ← e, w)
 
-  pub entries-second : b ≡ false → (m : ℕ) → m ≡ entriesAt t 50 → (c : Bool) → c ≡ outside 2 m 4096 → c ≡ badEntries t
+  pub entries-second : b ≡ false → (m : ℕ) → m ≡ outputEntries t → (c : Bool) → c ≡ outside 2 m mostTableEntries → c ≡ badEntries t
   unfolding badEntries
   entries-second w m em c f = rw (← en, ← e, w, ← em) f
 
@@ -161,7 +161,7 @@ module _ (v c s : ℕ) (vl : v < 2 ^ 32) (cl : c < 256) where
 
 -- ---- the tables
 
-module _ (t : List ℕ) (points : ℕ) (ep : points ≡ pointsOf (colourTable t)) (s i o n m start : ℕ) (es : s ≡ entrySize t) (ei : i ≡ getD t 8 0) (eo : o ≡ getD t 9 0) (en : n ≡ entriesAt t 48) (em : m ≡ entriesAt t 50) (et : start ≡ tablesStart t) (a b c : ℕ) (wa : Sized (n * i * s) a) (wb : Sized (points * o * s) b) (wc : Sized (m * o * s) c) where
+module _ (t : List ℕ) (points : ℕ) (ep : points ≡ pointsOf (colourTable t)) (s i o n m start : ℕ) (es : s ≡ entrySize t) (ei : i ≡ getD t 8 0) (eo : o ≡ getD t 9 0) (en : n ≡ inputEntries t) (em : m ≡ outputEntries t) (et : start ≡ tablesStart t) (a b c : ℕ) (wa : Sized (n * i * s) a) (wb : Sized (points * o * s) b) (wc : Sized (m * o * s) c) where
   pub tables-short : length t < start + a + b + c → refused 2 ≡ tablesOf t
   unfolding tablesOf colourTable
   tables-short l = rw (← ep, ← ei, ← eo, ← es, ← en, ← em, ← et, ← wa .is, ← wb .is, ← wc .is, lt-ltb _ _ l)
@@ -216,11 +216,11 @@ module _ (t : List ℕ) (w : ℕ) (h : w ≡ u32At t 0) where
   is-mft2 n b e = rw (← h, ne-eqb _ _ n) e
 
 module _ (limit : ℕ) (t : List ℕ) where
-  pub type-short : length t < 48 → refused 2 ≡ mftOf limit t
+  pub type-short : length t < shortest → refused 2 ≡ mftOf limit t
   unfolding mftOf
   type-short l = rw (lt-ltb _ _ l)
 
-  module _ (l : 48 ≤ length t) (b : Bool) (h : b ≡ isMft t) where
+  module _ (l : shortest ≤ length t) (b : Bool) (h : b ≡ isMft t) where
     pub type-other : b ≡ false → refused 3 ≡ mftOf limit t
     unfolding mftOf
     type-other e = rw (le-ltb _ _ l, ← h, e)

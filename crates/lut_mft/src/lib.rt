@@ -1,4 +1,19 @@
 // `mft1` and `mft2`, the standard's lut8Type and lut16Type: read_lut_a_to_b_type of moxcms.
+//
+//    0 to  3  'mft1' (lut8Type) or 'mft2' (lut16Type)
+//    4 to  7  reserved, 0
+//    8        input channels
+//    9        output channels
+//   10        grid points of each dimension
+//   11        reserved, 0
+//   12 to 47  the matrix, nine numbers
+//
+//   lut8Type                             lut16Type
+//   48 on     the tables, 1 byte         48 to 49  entries of the input table for each channel
+//             an entry                   50 to 51  entries of the output table for each channel
+//                                        52 on     the tables, 2 bytes an entry
+//
+// The tables are the input table, the colour table and the output table, one behind the other.
 use fields::InTag;
 use fields::Kind;
 use fields::Refusal;
@@ -12,6 +27,30 @@ ghost use Rattle.lut_mft_meaning.specs.Answer.{inNumbers, stateFrom, answerOf};
 ghost use Rattle.lut_mft_meaning.specs.Layout.{isWide, isMft, entriesAt, entrySize, tablesStart, colourTable};
 ghost use Rattle.lut_mft_meaning.specs.Mft.{outside, badEntries, badChannels, badNumbers, tablesOf, numbersOf, mftOf};
 ghost use Rattle.lut_mft.specs.Sized.{Sized};
+
+const INPUTS: InTag = InTag(8);
+
+const OUTPUTS: InTag = InTag(9);
+
+const GRID_POINTS: InTag = InTag(10);
+
+const MATRIX: InTag = InTag(12);
+
+const INPUT_ENTRIES: InTag = InTag(48);
+
+const OUTPUT_ENTRIES: InTag = InTag(50);
+
+const NARROW_TABLES: u32 = 48;
+
+const WIDE_TABLES: u32 = 52;
+
+// The shortest tag.
+const SHORTEST: usize = 48;
+
+// The entries for each channel of the input table and of the output table: those of `mft1`, and the most that a tag may have.
+const NARROW_ENTRIES: u16 = 256;
+
+const MOST_TABLE_ENTRIES: u16 = 4_096;
 
 // Whether the tag is `mft2`.
 fn is_wide(tag: &[u8]) -> bool
@@ -31,13 +70,13 @@ pub fn is_mft(tag: &[u8]) -> bool
 }
 
 // How many entries a channel has in the table whose number of them stands at `at`; 256 in `mft1`.
-fn entries(tag: &[u8], at: u64) -> u16
-    ensures { λ r. ⌜ r ≡ entriesAt (now (tag .entry)) at ⌝ }
+fn entries(tag: &[u8], at: InTag) -> u16
+    ensures { λ r. ⌜ r ≡ entriesAt (now (tag .entry)) (at .0) ⌝ }
 {
     if is_wide(tag) {
-        fields::u16_at(tag, InTag(at))
+        fields::u16_at(tag, at)
     } else {
-        256
+        NARROW_ENTRIES
     }
 }
 
@@ -50,7 +89,11 @@ fn entry_size(tag: &[u8]) -> u8
 fn tables_start(tag: &[u8]) -> u32
     ensures { λ r. ⌜ r ≡ tablesStart (now (tag .entry)) ⌝ }
 {
-    if is_wide(tag) { 52 } else { 48 }
+    if is_wide(tag) {
+        WIDE_TABLES
+    } else {
+        NARROW_TABLES
+    }
 }
 
 fn is_outside(x: u16, low: u16, high: u16) -> bool
@@ -65,17 +108,17 @@ fn is_outside(x: u16, low: u16, high: u16) -> bool
 fn has_bad_entries(tag: &[u8]) -> bool
     ensures { λ r. ⌜ r ≡ badEntries (now (tag .entry)) ⌝ }
 {
-    if is_outside(entries(tag, 48), 2, 4096) {
+    if is_outside(entries(tag, INPUT_ENTRIES), 2, MOST_TABLE_ENTRIES) {
         return true;
     }
-    is_outside(entries(tag, 50), 2, 4096)
+    is_outside(entries(tag, OUTPUT_ENTRIES), 2, MOST_TABLE_ENTRIES)
 }
 
 fn has_bad_channels(tag: &[u8]) -> bool
     ensures { λ r. ⌜ r ≡ badChannels (now (tag .entry)) ⌝ }
 {
-    let inputs = fields::u8_at(tag, InTag(8));
-    let outputs = fields::u8_at(tag, InTag(9));
+    let inputs = fields::u8_at(tag, INPUTS);
+    let outputs = fields::u8_at(tag, OUTPUTS);
     if is_outside(inputs as u16, 1, 4) {
         return true;
     }
@@ -101,7 +144,7 @@ fn has_bad_numbers(tag: &[u8]) -> bool
     if has_bad_channels(tag) {
         return true;
     }
-    fields::u8_at(tag, InTag(10)) < 2
+    fields::u8_at(tag, GRID_POINTS) < 2
 }
 
 // A grid byte to the power of at most four channels: 255^4 fits 32 bits.
@@ -131,10 +174,10 @@ fn find_tables(tag: &[u8], points: u32) -> MftAnswer
     ensures { λ r. ⌜ stateFrom r ≡ tablesOf (now (tag .entry)) ⌝ }
 {
     let entry_size = entry_size(tag);
-    let inputs = fields::u8_at(tag, InTag(8));
-    let outputs = fields::u8_at(tag, InTag(9));
-    let input_entries = entries(tag, 48);
-    let output_entries = entries(tag, 50);
+    let inputs = fields::u8_at(tag, INPUTS);
+    let outputs = fields::u8_at(tag, OUTPUTS);
+    let input_entries = entries(tag, INPUT_ENTRIES);
+    let output_entries = entries(tag, OUTPUT_ENTRIES);
     let input_start = tables_start(tag) as u64;
     let input_length = table_length(input_entries as u32, inputs, entry_size);
     let clut_length = table_length(points, outputs, entry_size);
@@ -148,7 +191,7 @@ fn find_tables(tag: &[u8], points: u32) -> MftAnswer
         entry_size,
         inputs,
         outputs,
-        grid: fields::u8_at(tag, InTag(10)),
+        grid: fields::u8_at(tag, GRID_POINTS),
         input_entries,
         output_entries,
         input_start: InTag(input_start),
@@ -167,7 +210,7 @@ fn read_numbers(tag: &[u8], limit: u64) -> MftAnswer
     if has_bad_numbers(tag) {
         return MftAnswer::Refused(Refusal::BadTable);
     }
-    let points = power(fields::u8_at(tag, InTag(10)), fields::u8_at(tag, InTag(8)));
+    let points = power(fields::u8_at(tag, GRID_POINTS), fields::u8_at(tag, INPUTS));
     if limit < points as u64 {
         return MftAnswer::Refused(Refusal::GridOverLimit);
     }
@@ -177,7 +220,7 @@ fn read_numbers(tag: &[u8], limit: u64) -> MftAnswer
 fn read_type(tag: &[u8], limit: u64) -> MftAnswer
     ensures { λ r. ⌜ stateFrom r ≡ mftOf limit (now (tag .entry)) ⌝ }
 {
-    if tag.len() < 48 {
+    if tag.len() < SHORTEST {
         return MftAnswer::Refused(Refusal::TagTooShort);
     }
     if is_mft(tag) {
@@ -197,7 +240,7 @@ pub fn read_lut_a_to_b_type(tag: &[u8], limit: u64) -> Mft
     match answer {
         MftAnswer::Value(table) => Mft {
             answer: MftAnswer::Value(table),
-            matrix: fields::nine_at(tag, InTag(12)),
+            matrix: fields::nine_at(tag, MATRIX),
         },
         MftAnswer::Refused(why) => Mft {
             answer: MftAnswer::Refused(why),

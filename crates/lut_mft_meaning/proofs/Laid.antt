@@ -15,17 +15,17 @@ use Rattle.fields.specs.Tag.{signatureOf}
 use Rattle.fields.specs.declared.Kind.the-variants.{Mft1, Mft2}
 use Rattle.fields.proofs.Choice.{each, neither-left, neither-right}
 use Rattle.lut_mft_meaning.specs.Answer.{Fields, State, value, refused, fieldsOf}
-use Rattle.lut_mft_meaning.specs.Layout.{isWide, isMft, inputs, outputs, gridPoints, inputEntries, outputEntries, tablesStart, colourTable, tablesEnd}
-use Rattle.lut_mft_meaning.specs.Mft.{outside, badEntries, badChannels, badNumbers, tablesOf, numbersOf, mftOf}
+use Rattle.lut_mft_meaning.specs.Layout.{isWide, isMft, shortest, inputs, outputs, gridPoints, inputEntries, outputEntries, tablesStart, colourTable, tablesEnd}
+use Rattle.lut_mft_meaning.specs.Mft.{outside, mostTableEntries, badEntries, badChannels, badNumbers, tablesOf, numbersOf, mftOf}
 
 -- the tag has one of the two types, holds the numbers that its tables need, and these lie in it; a channel has 2 to 4,096 entries in the input
 -- table and in the output table
 pub record LaidOut (t : List ℕ) : Type 0 where
   pub type-is : (u32At t 0 ≡ signatureOf Mft1) ⊎ (u32At t 0 ≡ signatureOf Mft2)
   pub input-least : 2 ≤ inputEntries t
-  pub input-most : inputEntries t ≤ 4096
+  pub input-most : inputEntries t ≤ mostTableEntries
   pub output-least : 2 ≤ outputEntries t
-  pub output-most : outputEntries t ≤ 4096
+  pub output-most : outputEntries t ≤ mostTableEntries
   pub whole : tablesEnd t ≤ length t
 
 -- what this library asks besides: one to four channels on each side, three on one of them, two points or more in each dimension, and no
@@ -52,7 +52,7 @@ three-is i o (inr e) = rw (eq-eqb o 3 e, or-true)
 good-numbers : (limit : ℕ) (t : List ℕ) → LaidOut t → Asked limit t → badNumbers t ≡ false
 unfolding badNumbers badEntries badChannels
 good-numbers limit t h w =
-    rw (inside-is 2 (inputEntries t) 4096 (h .input-least) (h .input-most), inside-is 2 (outputEntries t) 4096 (h .output-least) (h .output-most), inside-is 1 (inputs t) 4 (w .some-inputs) (w .few-inputs), inside-is 1 (outputs t) 4 (w .some-outputs) (w .few-outputs), three-is (inputs t) (outputs t) (w .three), le-ltb (gridPoints t) 2 (w .wide))
+    rw (inside-is 2 (inputEntries t) mostTableEntries (h .input-least) (h .input-most), inside-is 2 (outputEntries t) mostTableEntries (h .output-least) (h .output-most), inside-is 1 (inputs t) 4 (w .some-inputs) (w .few-inputs), inside-is 1 (outputs t) 4 (w .some-outputs) (w .few-outputs), three-is (inputs t) (outputs t) (w .three), le-ltb (gridPoints t) 2 (w .wide))
 
 pub type-known : (t : List ℕ) → (u32At t 0 ≡ signatureOf Mft1) ⊎ (u32At t 0 ≡ signatureOf Mft2) → isMft t ≡ true
 unfolding isMft isWide
@@ -60,11 +60,11 @@ type-known t (inl e) = rw (eq-eqb _ _ e)
 type-known t (inr e) = rw (eq-eqb _ _ e, or-true)
 
 -- the tables start behind the matrix
-pub start-least : (t : List ℕ) → 48 ≤ tablesStart t
+pub start-least : (t : List ℕ) → shortest ≤ tablesStart t
 unfolding tablesStart
 start-least t = by (isWide t)
   where
-    by : (b : Bool) → 48 ≤ cond b 52 48
+    by : (b : Bool) → shortest ≤ cond b 52 shortest
     by true = omega arith
     by false = omega arith
 
@@ -76,7 +76,7 @@ pub conforms : (limit : ℕ) (t : List ℕ) → LaidOut t → Asked limit t → 
 unfolding mftOf numbersOf tablesOf
 conforms limit t h w =
     let start : tablesStart t ≤ length t = omega (arith, start-before t, h .whole) in
-    let head : 48 ≤ length t = omega (arith, start-least t, start) in
+    let head : shortest ≤ length t = omega (arith, start-least t, start) in
     rw (le-ltb _ _ head, type-known t (h .type-is), le-ltb _ _ start, good-numbers limit t h w, le-ltb _ _ (w .within), le-ltb _ _ (h .whole))
 
 -- ---- what is accepted is laid out so
@@ -119,7 +119,7 @@ facts limit t =
     let o : ℕ = outputs t in
     let n : ℕ = inputEntries t in
     let m : ℕ = outputEntries t in
-    each P (ltb (length t) 48) _ _ (λ _. tt)
+    each P (ltb (length t) shortest) _ _ (λ _. tt)
     (λ _. each P (not (isMft t)) _ _ (λ _. tt)
     (λ k. each P (ltb (length t) (tablesStart t)) _ _ (λ _. tt)
     (λ _. each P (badEntries t || badChannels t || ltb (gridPoints t) 2) _ _ (λ _. tt)
@@ -127,20 +127,20 @@ facts limit t =
     (λ p. each P (ltb (length t) (tablesEnd t)) _ _ (λ _. tt)
     (λ e.
     let e-c : badEntries t || badChannels t ≡ false = neither-left _ (ltb (gridPoints t) 2) b in
-    let es : outside 2 n 4096 || outside 2 m 4096 ≡ false = neither-left (badEntries t) (badChannels t) e-c in
+    let es : outside 2 n mostTableEntries || outside 2 m mostTableEntries ≡ false = neither-left (badEntries t) (badChannels t) e-c in
     let cs : outside 1 i 4 || outside 1 o 4 || not (eqb i 3 || eqb o 3) ≡ false = neither-right (badEntries t) (badChannels t) e-c in
     let sides : outside 1 i 4 || outside 1 o 4 ≡ false = neither-left _ (not (eqb i 3 || eqb o 3)) cs in
-    let ni : outside 2 n 4096 ≡ false = neither-left _ (outside 2 m 4096) es in
-    let no : outside 2 m 4096 ≡ false = neither-right (outside 2 n 4096) _ es in
+    let ni : outside 2 n mostTableEntries ≡ false = neither-left _ (outside 2 m mostTableEntries) es in
+    let no : outside 2 m mostTableEntries ≡ false = neither-right (outside 2 n mostTableEntries) _ es in
     let ci : outside 1 i 4 ≡ false = neither-left _ (outside 1 o 4) sides in
     let co : outside 1 o 4 ≡ false = neither-right (outside 1 i 4) _ sides in
     record {
       laid = record {
         type-is = one-is _ _ _ _ k;
-        input-least = outside-least 2 n 4096 ni;
-        input-most = outside-most 2 n 4096 ni;
-        output-least = outside-least 2 m 4096 no;
-        output-most = outside-most 2 m 4096 no;
+        input-least = outside-least 2 n mostTableEntries ni;
+        input-most = outside-most 2 n mostTableEntries ni;
+        output-least = outside-least 2 m mostTableEntries no;
+        output-most = outside-most 2 m mostTableEntries no;
         whole = ltb-false (length t) (tablesEnd t) e;
       };
       asked = record {

@@ -12,7 +12,7 @@ use borrow.Author.Tests.{ltb-false, le-ltb}
 use Rattle.lut_clut_meaning.specs.Table.{pointsOf}
 use Rattle.fields.proofs.Grow.{Grows, choose, passes}
 use Rattle.lut_mft_meaning.specs.Answer.{State, refused}
-use Rattle.lut_mft_meaning.specs.Layout.{isMft, colourTable, tablesStart}
+use Rattle.lut_mft_meaning.specs.Layout.{isMft, shortest, colourTable, tablesStart}
 use Rattle.lut_mft_meaning.specs.Mft.{badNumbers, numbersOf, mftOf}
 
 abbrev pub Is : ℕ → State → Type 0
@@ -29,7 +29,7 @@ module _ (low high : ℕ) (h : low ≤ high) (t : List ℕ) where
   pub more-limit : Grows (Is 16) (mftOf low t) (mftOf high t)
   unfolding mftOf
   more-limit =
-      choose (Is 16) (ltb (length t) 48) (λ _. inr refl)
+      choose (Is 16) (ltb (length t) shortest) (λ _. inr refl)
       (λ _. choose (Is 16) (not (isMft t)) (λ _. inr refl)
       (λ _. choose (Is 16) (ltb (length t) (tablesStart t)) (λ _. inr refl)
       (λ _. numbers-limit)))

@@ -32,6 +32,10 @@ isWide t = eqb (u32At t 0) (signatureOf Mft2)
 unfoldable pub isMft : List ℕ → Bool
 isMft t = eqb (u32At t 0) (signatureOf Mft1) || isWide t
 
+-- the shortest tag: the bytes in front of the tables of lut8Type
+abbrev pub shortest : ℕ
+shortest = 48
+
 abbrev pub inputs : List ℕ → ℕ
 inputs t = getD t 8 0
 
@@ -49,7 +53,7 @@ unfoldable pub entrySize : List ℕ → ℕ
 entrySize t = cond (isWide t) 2 1
 
 unfoldable pub tablesStart : List ℕ → ℕ
-tablesStart t = cond (isWide t) 52 48
+tablesStart t = cond (isWide t) 52 shortest
 
 -- the entries for each channel of the input table and of the output table
 unfoldable pub entriesAt : List ℕ → ℕ → ℕ

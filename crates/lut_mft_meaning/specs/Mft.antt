@@ -6,14 +6,17 @@ use lib.Dec.{ltb, eqb}
 use lib.ListN.{length}
 use Rattle.lut_clut_meaning.specs.Table.{pointsOf}
 use Rattle.lut_mft_meaning.specs.Answer.{State, value, refused, fieldsOf}
-use Rattle.lut_mft_meaning.specs.Layout.{isMft, inputs, outputs, gridPoints, inputEntries, outputEntries, tablesStart, colourTable, tablesEnd}
+use Rattle.lut_mft_meaning.specs.Layout.{isMft, shortest, inputs, outputs, gridPoints, inputEntries, outputEntries, tablesStart, colourTable, tablesEnd}
 
 unfoldable pub outside : ℕ → ℕ → ℕ → Bool
 outside low x high = ltb x low || ltb high x
 
--- 2 to 4,096 entries in either table
+-- 2 to 4,096 entries in either table, for each channel
+abbrev pub mostTableEntries : ℕ
+mostTableEntries = 4096
+
 unfoldable pub badEntries : List ℕ → Bool
-badEntries t = outside 2 (inputEntries t) 4096 || outside 2 (outputEntries t) 4096
+badEntries t = outside 2 (inputEntries t) mostTableEntries || outside 2 (outputEntries t) mostTableEntries
 
 -- 1 to 4 channels on each side, and 3 on one of them
 unfoldable pub badChannels : List ℕ → Bool
@@ -37,7 +40,7 @@ numbersOf limit t =
 -- the bytes t of a tag
 unfoldable pub mftOf : ℕ → List ℕ → State
 mftOf limit t =
-    cond (ltb (length t) 48) (refused 2) (
+    cond (ltb (length t) shortest) (refused 2) (
     cond (not (isMft t)) (refused 3) (
     cond (ltb (length t) (tablesStart t)) (refused 2) (
     numbersOf limit t)))

@@ -16,13 +16,14 @@ use Rattle.fields.specs.Checked.{good}
 use Rattle.fields.specs.Bytes.{bytesAt}
 use Rattle.fields.proofs.Words.{bytes-part}
 use Rattle.lut_clut_meaning.specs.Clut.{clutOf}
-use Rattle.lut_clut_meaning.specs.Table.{Table, lengthOf, inGrid, pointOf, entryNumber}
+use Rattle.lut_clut_meaning.specs.Table.{Table, inGrid, pointOf, entryNumber}
 use Rattle.lut_clut_meaning.proofs.Laid.{Accepted, accepted}
 use Rattle.curve_meaning.specs.declared.Walk.{Walk}
 use Rattle.lut_mft_meaning.specs.Answer.{Fields, fieldsOf, toldTable as Mft·toldTable}
 use Rattle.lut_mft_meaning.specs.Layout.{isWide, entrySize}
 use Rattle.lut_mft_meaning.proofs.Laid.{accepted as Mft·accepted}
-use Rattle.lut_meaning.specs.Abm.{noTable, colourTableOf, valueFrom, toldTable}
+use Rattle.lut_meaning.specs.Abm.{valueOf, toldTable}
+use Rattle.lut_meaning.specs.Parts.{noTable, tableIn, colourTableOf}
 use Rattle.lut_meaning.specs.Answer.{Abm, State, Answer, mft, abm, absent as State·absent, refused}
 use Rattle.lut_meaning.specs.Layout.{inputs, outputs, clutOffset, gridOf}
 use Rattle.lut_meaning.specs.Lut.{tagOf, lutOf}
@@ -113,15 +114,15 @@ module _ (walk : Walk) (limit points : ℕ) (p : List ℕ) (entry size words : �
 
   -- `mAB ` and `mBA `, with a colour table
   pub abm-shows : (f : Abm) → answer .state ≡ abm f → 1 ≤ f .size → Shows t (numbersOf (abm f)) (toldTable (answer .grid) f) (f .bytes)
-  unfolding valueFrom
+  unfolding valueOf
   abm-shows f h l =
       let w = abm-found walk limit points p entry size words f h in
       let v = w .behind in
-      let is-value : answer ≡ valueFrom t (v .table .start) (lengthOf (v .table)) (v .table .size) = w .as-abm ∙ v .answer-is in
-      let e : abm f ≡ valueFrom t (v .table .start) (lengthOf (v .table)) (v .table .size) .state = sym h ∙ ap (λ (a : Answer). a .state) is-value in
-      let e₁ : f .start ≡ v .table .start = cc in
-      let e₂ : f .size ≡ v .table .size = cc in
-      let k = laid-out t (v .table) (v .table-is) (omega (arith, e₂)) in
+      let is-value : answer ≡ valueOf t = w .as-abm ∙ v .answer-is in
+      let e : abm f ≡ valueOf t .state = sym h ∙ ap (λ (a : Answer). a .state) is-value in
+      let e₁ : f .start ≡ tableIn t .start = cc in
+      let e₂ : f .size ≡ tableIn t .size = cc in
+      let k = laid-out t (tableIn t) (v .parts-good .table-good) (omega (arith, e₂)) in
       let laid = k .1 .laid in
       let n : ℕ = min (f .inputs) 16 in
       let few : n ≤ 16 = omega arith in

@@ -1,4 +1,4 @@
--- `lut::abm::check_matrix` meets its contract: each way out is a law of `matrixJudged`.
+-- `lut::abm::check_matrix` meets its contract: each way out is a law of `matrixChecked`.
 -- Assumes nothing.
 use Rattle.lut.proofs.PartLaws.{matrix-laws}
 use borrow.Author.Needs.{needs}

@@ -1,4 +1,4 @@
--- `lut::abm::check_runs` meets its contract: each way out is a law of `runsJudged`.
+-- `lut::abm::check_runs` meets its contract: each way out is a law of `runsChecked`.
 -- Assumes nothing.
 use Rattle.lut.proofs.PartLaws.{runs-laws}
 use borrow.Author.Needs.{needs}

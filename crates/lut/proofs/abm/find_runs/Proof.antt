@@ -1,6 +1,6 @@
--- `lut::abm::find_runs` meets its contract: the offsets and the numbers of curves are the plan.
+-- `lut::abm::find_runs` meets its contract: the offsets, and the channels of each side, tell the runs.
 -- Assumes nothing.
-use Rattle.lut.proofs.PartLaws.{planned}
+use Rattle.lut.proofs.PartLaws.{runs-found}
 use borrow.Author.Needs.{needs}
 use Rattle.lut.proofs.abm.find_runs.Statement.{statement}
 use Rattle.lut.proofs.abm.find_runs.Tie as tie
@@ -12,10 +12,12 @@ find-runs-spec =
     (λ c κs. search needs)
     (λ c κs. search needs)
     (λ c κs. search needs)
-    (λ c. search needs)
+    (λ c κs. search needs)
     (λ c κs. search needs)
     (λ c. search needs)
     (λ c κs. search needs)
     (λ c. search needs)
     (λ c κs. search needs)
-    (λ c. search (needs, planned)))
+    (λ c. search needs)
+    (λ c κs. search needs)
+    (λ c. search (needs, runs-found)))

@@ -1,6 +1,6 @@
 -- `lut::abm::read_parts` meets its contract: the refusal of the colour table is handed on, or the runs are read.
 -- Assumes nothing.
-use Rattle.lut.proofs.Laws.{table-refused, table-passed, grid-there}
+use Rattle.lut.proofs.Laws.{table-refused, table-read}
 use borrow.Author.Needs.{needs}
 use Rattle.lut.proofs.abm.read_parts.Statement.{statement}
 use Rattle.lut.proofs.abm.read_parts.Tie as tie
@@ -11,9 +11,9 @@ read-parts-spec =
     (tie.spec
     (λ c κs. search needs)
     (λ c. search needs)
-    (λ c κs. search (needs, grid-there))
+    (λ c κs. search (needs, table-read))
     (λ c. search needs)
     (λ c κs. search needs)
     (λ c. search needs)
-    (λ c. search (needs, table-passed))
-    (λ c. search (needs, table-refused, table-passed)))
+    (λ c. search needs)
+    (λ c. search (needs, table-refused)))

@@ -1,6 +1,6 @@
 -- `lut::abm::read_runs` meets its contract: the verdict of the runs is handed on, or the records are written.
 -- Assumes nothing.
-use Rattle.lut.proofs.Laws.{runs-good, runs-refused, runs-passed}
+use Rattle.lut.proofs.Laws.{runs-whole, runs-refused}
 use borrow.Author.Needs.{needs}
 use Rattle.lut.proofs.abm.read_runs.Statement.{statement}
 use Rattle.lut.proofs.abm.read_runs.Tie as tie
@@ -12,9 +12,9 @@ read-runs-spec =
     (λ c κs. search needs)
     (λ c κs. search needs)
     (λ c. search needs)
-    (λ c κs. search (needs, runs-good))
+    (λ c κs. search (needs, runs-whole))
     (λ c. search needs)
     (λ c κs. search needs)
     (λ c. search needs)
-    (λ c. search (needs, runs-passed))
-    (λ c. search (needs, runs-refused, runs-passed)))
+    (λ c. search needs)
+    (λ c. search (needs, runs-refused)))
