@@ -3,13 +3,21 @@ use curve_meaning::CurveAnswer;
 use curve_meaning::CurveRecord;
 use curve_meaning::Walk;
 use export_words::ABSENT;
+use export_words::Layout;
 use export_words::VALUE;
 ghost use mathlib.Core.Path.{_≡_};
 ghost use mathlib.Core.List.{[], _∷_, _++_};
 ghost use lib.Seq.{sets};
 ghost use Rattle.curve_meaning.specs.Answer.{words, inNumbers};
-ghost use Rattle.export_words.specs.Told.{Gave};
-ghost use Rattle.export_curve.specs.Layout.{walkOf, curveExported};
+ghost use Rattle.export_words.specs.Exported.{always, Gave};
+ghost use Rattle.export_curve.specs.Layout.{walkOf, curveExported, curveLayout};
+
+// How the words are laid out: kind, start, count, the seven parameters, which are signed, and the consumed size.
+pub const CURVE: Layout = Layout {
+    words: 11,
+    from: 3,
+    to: 10,
+};
 
 // The walk of a number: 0 is the crate walk, any other the book walk.
 pub fn walk_of(number: u32) -> Walk
@@ -29,7 +37,7 @@ fn put_curve(out: &mut [u64], c: CurveRecord, consumed: u64)
 
 // The ten words of the record, and the consumed size.
 pub fn tell_curve(got: CurveAnswer, out: &mut [u64]) -> u32
-    ensures { λ r. ⌜ Gave (curveExported (inNumbers got)) r (now (out .entry)) (now (out .exit)) ⌝ }
+    ensures { λ r. ⌜ Gave (always curveLayout) (curveExported (inNumbers got)) r (now (out .entry)) (now (out .exit)) ⌝ }
 {
     match got {
         CurveAnswer::Value { curve, consumed } => {

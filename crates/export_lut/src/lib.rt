@@ -1,12 +1,16 @@
 // What is told of a lookup table, and of an entry of a colour table.
 use export_words::ABSENT;
+use export_words::Layout;
 use export_words::VALUE;
+use fields::InTag;
 use fields::Kind;
 use lut_meaning::AbmTable;
 use lut_meaning::Lut;
 use lut_meaning::LutAnswer;
 use lut_mft_meaning::MftTable;
 use lut_view_meaning::EntryAnswer;
+use lut_view_meaning::TableNumbers;
+ghost use Prim.Native.Nat.{_-_, _%_};
 ghost use mathlib.Core.Path.{_≡_};
 ghost use mathlib.Core.Bool.{cond};
 ghost use mathlib.Core.List.{_++_};
@@ -18,8 +22,40 @@ ghost use Rattle.fields.specs.declared.Kind.the-variants.{Mft1, Mft2, Mab, Mba}
 ghost use Rattle.lut_meaning.specs.Answer.{inNumbers, tableFrom};
 ghost use Rattle.lut_mft_meaning.specs.Answer.{fieldsFrom};
 ghost use Rattle.lut_view_meaning.specs.Answer.{inNumbers as Entry·inNumbers};
-ghost use Rattle.export_words.specs.Told.{Gave};
-ghost use Rattle.export_lut.specs.Layout.{mftHead, mftRanges, abmHead, abmParts, lutExported, entryExported};
+ghost use Rattle.export_words.specs.Exported.{always, Gave};
+ghost use Rattle.export_lut.specs.Layout.{mftHead, mftRanges, abmHead, abmParts, lutExported, entryExported, lutLayout, entryLayout, mftNumbers, abmNumbers, numbersIn};
+
+// How the words of each type are laid out; `mAB ` and `mBA ` have the most.
+const MFT: Layout = Layout {
+    words: 21,
+    from: 6,
+    to: 15,
+};
+
+pub const ABM: Layout = Layout {
+    words: 37,
+    from: 19,
+    to: 31,
+};
+
+pub const ENTRY: Layout = Layout {
+    words: 1,
+    from: 0,
+    to: 0,
+};
+
+// By the first word, the type's signature.
+pub fn layout_of(first: u64) -> Layout
+    ensures { λ r. ⌜ r ≡ lutLayout first ⌝ }
+{
+    if first == Kind::MFT1 as u64 {
+        return MFT;
+    }
+    if first == Kind::MFT2 as u64 {
+        return MFT;
+    }
+    ABM
+}
 
 // The signature of `mft1` or `mft2`, by the bytes of an entry.
 fn mft_type(size: u8) -> u32
@@ -110,7 +146,7 @@ fn put_abm(out: &mut [u64], t: AbmTable, grid: &[u8], matrix: &[u32], bias: &[u3
 
 // A lookup table: of `mft1` and `mft2` 21 words, of `mAB ` and `mBA ` 37, in the order of specs/Layout.antt.
 pub fn tell_lut(got: Lut, out: &mut [u64]) -> u32
-    ensures { λ r. ⌜ Gave (lutExported (inNumbers got)) r (now (out .entry)) (now (out .exit)) ⌝ }
+    ensures { λ r. ⌜ Gave lutLayout (lutExported (inNumbers got)) r (now (out .entry)) (now (out .exit)) ⌝ }
 {
     let answer = got.answer;
     let grid = got.grid;
@@ -132,7 +168,7 @@ pub fn tell_lut(got: Lut, out: &mut [u64]) -> u32
 
 // An entry of a colour table: one word.
 pub fn tell_entry(got: EntryAnswer, out: &mut [u64]) -> u32
-    ensures { λ r. ⌜ Gave (entryExported (Entry·inNumbers got)) r (now (out .entry)) (now (out .exit)) ⌝ }
+    ensures { λ r. ⌜ Gave (always entryLayout) (entryExported (Entry·inNumbers got)) r (now (out .entry)) (now (out .exit)) ⌝ }
 {
     match got {
         EntryAnswer::Value(entry) => {
@@ -142,4 +178,60 @@ pub fn tell_entry(got: EntryAnswer, out: &mut [u64]) -> u32
         }
         EntryAnswer::Absent => ABSENT,
     }
+}
+
+fn low_byte(word: u64) -> u8
+    ensures { λ r. ⌜ r ≡ word % 256 ⌝ }
+{
+    (word % 256) as u8
+}
+
+// The sixteen grid bytes of `mAB ` and `mBA ` and four more stand before the entries.
+fn grid_before(start: u64) -> u64
+    ensures { λ r. ⌜ r ≡ start - 20 ⌝ }
+{
+    if start < 20 {
+        return 0;
+    }
+    start - 20
+}
+
+fn mft_numbers(words: &[u64; 37], size: u8) -> TableNumbers
+    ensures { λ r. ⌜ r ≡ mftNumbers size (now (words .entry)) ⌝ }
+{
+    TableNumbers {
+        start: InTag(words[17]),
+        entry_size: size,
+        inputs: low_byte(words[1]),
+        outputs: low_byte(words[2]),
+        grid_at: InTag(10),
+        grid_step: 0,
+    }
+}
+
+fn abm_numbers(words: &[u64; 37]) -> TableNumbers
+    ensures { λ r. ⌜ r ≡ abmNumbers (now (words .entry)) ⌝ }
+{
+    let start = words[31];
+    TableNumbers {
+        start: InTag(start),
+        entry_size: low_byte(words[33]),
+        inputs: low_byte(words[1]),
+        outputs: low_byte(words[2]),
+        grid_at: InTag(grid_before(start)),
+        grid_step: 1,
+    }
+}
+
+// The numbers of the colour table, taken from the words of a lookup table.
+pub fn numbers_in(words: &[u64; 37]) -> TableNumbers
+    ensures { λ r. ⌜ r ≡ numbersIn (now (words .entry)) ⌝ }
+{
+    if words[0] == Kind::MFT1 as u64 {
+        return mft_numbers(words, 1);
+    }
+    if words[0] == Kind::MFT2 as u64 {
+        return mft_numbers(words, 2);
+    }
+    abm_numbers(words)
 }

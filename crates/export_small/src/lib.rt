@@ -1,6 +1,7 @@
 // What is told of the small readers' answers: a status, and the words of a value.
 use export_words::ABSENT;
 use export_words::DEFAULT;
+use export_words::Layout;
 use export_words::VALUE;
 use small_meaning::ChadAnswer;
 use small_meaning::CicpAnswer;
@@ -10,12 +11,55 @@ use small_meaning::SigAnswer;
 use small_meaning::ViewAnswer;
 use small_meaning::XyzAnswer;
 ghost use Rattle.small_meaning.specs.Answer.{chadInNumbers, sigInNumbers, dateInNumbers, measInNumbers, viewInNumbers, xyzInNumbers, cicpInNumbers};
-ghost use Rattle.export_words.specs.Told.{Gave};
-ghost use Rattle.export_small.specs.Layout.{smallExported};
+ghost use Rattle.export_words.specs.Exported.{always, Gave};
+ghost use Rattle.export_small.specs.Layout.{smallExported, chadLayout, sigLayout, dateLayout, measLayout, viewLayout, xyzLayout, cicpLayout};
+
+// How the words of each are laid out.
+pub const CHAD: Layout = Layout {
+    words: 9,
+    from: 0,
+    to: 9,
+};
+
+pub const SIG: Layout = Layout {
+    words: 1,
+    from: 0,
+    to: 0,
+};
+
+pub const DATE: Layout = Layout {
+    words: 12,
+    from: 0,
+    to: 0,
+};
+
+pub const MEAS: Layout = Layout {
+    words: 7,
+    from: 1,
+    to: 4,
+};
+
+pub const VIEW: Layout = Layout {
+    words: 7,
+    from: 0,
+    to: 6,
+};
+
+pub const XYZ: Layout = Layout {
+    words: 3,
+    from: 0,
+    to: 3,
+};
+
+pub const CICP: Layout = Layout {
+    words: 4,
+    from: 0,
+    to: 0,
+};
 
 // `chad`: the matrix, row by row.
 pub fn tell_chad(got: ChadAnswer, out: &mut [u64]) -> u32
-    ensures { λ r. ⌜ Gave (smallExported (chadInNumbers got)) r (now (out .entry)) (now (out .exit)) ⌝ }
+    ensures { λ r. ⌜ Gave (always chadLayout) (smallExported (chadInNumbers got)) r (now (out .entry)) (now (out .exit)) ⌝ }
 {
     match got {
         ChadAnswer::Value(m) => {
@@ -40,7 +84,7 @@ pub fn tell_chad(got: ChadAnswer, out: &mut [u64]) -> u32
 
 // `sig `: the signature.
 pub fn tell_sig(got: SigAnswer, out: &mut [u64]) -> u32
-    ensures { λ r. ⌜ Gave (smallExported (sigInNumbers got)) r (now (out .entry)) (now (out .exit)) ⌝ }
+    ensures { λ r. ⌜ Gave (always sigLayout) (smallExported (sigInNumbers got)) r (now (out .entry)) (now (out .exit)) ⌝ }
 {
     match got {
         SigAnswer::Value { signature } => {
@@ -55,7 +99,7 @@ pub fn tell_sig(got: SigAnswer, out: &mut [u64]) -> u32
 
 // `dtim`: the twelve bytes.
 pub fn tell_date(got: DateAnswer, out: &mut [u64]) -> u32
-    ensures { λ r. ⌜ Gave (smallExported (dateInNumbers got)) r (now (out .entry)) (now (out .exit)) ⌝ }
+    ensures { λ r. ⌜ Gave (always dateLayout) (smallExported (dateInNumbers got)) r (now (out .entry)) (now (out .exit)) ⌝ }
 {
     match got {
         DateAnswer::Value(d) => {
@@ -83,7 +127,7 @@ pub fn tell_date(got: DateAnswer, out: &mut [u64]) -> u32
 
 // `meas`: observer, backing, geometry, flare, illuminant.
 pub fn tell_meas(got: MeasAnswer, out: &mut [u64]) -> u32
-    ensures { λ r. ⌜ Gave (smallExported (measInNumbers got)) r (now (out .entry)) (now (out .exit)) ⌝ }
+    ensures { λ r. ⌜ Gave (always measLayout) (smallExported (measInNumbers got)) r (now (out .entry)) (now (out .exit)) ⌝ }
 {
     match got {
         MeasAnswer::Value(m) => {
@@ -99,7 +143,7 @@ pub fn tell_meas(got: MeasAnswer, out: &mut [u64]) -> u32
 
 // `view`: illuminant, surround, the number.
 pub fn tell_view(got: ViewAnswer, out: &mut [u64]) -> u32
-    ensures { λ r. ⌜ Gave (smallExported (viewInNumbers got)) r (now (out .entry)) (now (out .exit)) ⌝ }
+    ensures { λ r. ⌜ Gave (always viewLayout) (smallExported (viewInNumbers got)) r (now (out .entry)) (now (out .exit)) ⌝ }
 {
     match got {
         ViewAnswer::Value(v) => {
@@ -116,7 +160,7 @@ pub fn tell_view(got: ViewAnswer, out: &mut [u64]) -> u32
 
 // `XYZ `: X, Y and Z. On the default, which stands for three zeros, `out` stays.
 pub fn tell_xyz(got: XyzAnswer, out: &mut [u64]) -> u32
-    ensures { λ r. ⌜ Gave (smallExported (xyzInNumbers got)) r (now (out .entry)) (now (out .exit)) ⌝ }
+    ensures { λ r. ⌜ Gave (always xyzLayout) (smallExported (xyzInNumbers got)) r (now (out .entry)) (now (out .exit)) ⌝ }
 {
     match got {
         XyzAnswer::Value(n) => {
@@ -131,7 +175,7 @@ pub fn tell_xyz(got: XyzAnswer, out: &mut [u64]) -> u32
 
 // `cicp`: primaries, transfer, matrix, the flag of the full range.
 pub fn tell_cicp(got: CicpAnswer, out: &mut [u64]) -> u32
-    ensures { λ r. ⌜ Gave (smallExported (cicpInNumbers got)) r (now (out .entry)) (now (out .exit)) ⌝ }
+    ensures { λ r. ⌜ Gave (always cicpLayout) (smallExported (cicpInNumbers got)) r (now (out .entry)) (now (out .exit)) ⌝ }
 {
     match got {
         CicpAnswer::Value(c) => {

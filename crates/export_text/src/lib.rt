@@ -1,5 +1,6 @@
 // What is told of the answer of the reader of text.
 use export_words::ABSENT;
+use export_words::Layout;
 use export_words::VALUE;
 use fields::Kind;
 use text_meaning::Description;
@@ -11,8 +12,40 @@ ghost use lib.Seq.{sets};
 ghost use Rattle.fields.specs.Tag.{signatureOf};
 ghost use Rattle.fields.specs.declared.Kind.the-variants.{Text, Desc};
 ghost use Rattle.text_meaning.specs.Answer.{inNumbers};
-ghost use Rattle.export_words.specs.Told.{Gave};
-ghost use Rattle.export_text.specs.Layout.{textExported};
+ghost use Rattle.export_words.specs.Exported.{Gave};
+ghost use Rattle.export_text.specs.Layout.{textExported, stringLayout};
+
+// How the words of each type are laid out; `desc` has the most.
+const TEXT: Layout = Layout {
+    words: 3,
+    from: 0,
+    to: 0,
+};
+
+pub const DESC: Layout = Layout {
+    words: 6,
+    from: 0,
+    to: 0,
+};
+
+const MLUC: Layout = Layout {
+    words: 2,
+    from: 0,
+    to: 0,
+};
+
+// By the first word, the type's signature.
+pub fn layout_of(first: u64) -> Layout
+    ensures { λ r. ⌜ r ≡ stringLayout first ⌝ }
+{
+    if first == Kind::TEXT as u64 {
+        return TEXT;
+    }
+    if first == Kind::DESC as u64 {
+        return DESC;
+    }
+    MLUC
+}
 
 fn put_text(out: &mut [u64], r: Range)
     ensures { λ _. ⌜ now (out .exit) ≡ sets (now (out .entry)) 0 (signatureOf Text ∷ r .start .0 ∷ r .length ∷ []) ⌝ }
@@ -42,7 +75,7 @@ fn put_desc(out: &mut [u64], d: Description)
 
 // Of `text` 3 words, of `desc` 6, of `mluc` 2, in the order of specs/Layout.antt.
 pub fn tell_text(got: TextAnswer, out: &mut [u64]) -> u32
-    ensures { λ r. ⌜ Gave (textExported (inNumbers got)) r (now (out .entry)) (now (out .exit)) ⌝ }
+    ensures { λ r. ⌜ Gave stringLayout (textExported (inNumbers got)) r (now (out .entry)) (now (out .exit)) ⌝ }
 {
     match got {
         TextAnswer::Text(range) => {

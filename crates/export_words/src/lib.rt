@@ -9,6 +9,14 @@ pub const ABSENT: u32 = 100;
 
 pub const DEFAULT: u32 = 101;
 
+// How the words of a value are laid out: how many they are, and that those from `from` up to `to` are signed, 32-bit words in two's
+// complement.
+pub struct Layout {
+    pub words: usize,
+    pub from: usize,
+    pub to: usize,
+}
+
 fn wide8(x: u8) -> u64
     ensures { λ r. ⌜ r ≡ x ⌝ }
 {

@@ -2,8 +2,8 @@
 use crate::NO_ROOM;
 use fields::Entry;
 ghost use Rattle.small_meaning.specs.Small.{chadOf, sigOf, dateOf, measOf, viewOf, xyzOf, cicpOf};
-ghost use Rattle.export_words.specs.Told.{within, Gave};
-ghost use Rattle.export_small.specs.Layout.{smallExported};
+ghost use Rattle.export_words.specs.Exported.{always, within, Gave};
+ghost use Rattle.export_small.specs.Layout.{smallExported, chadLayout, sigLayout, dateLayout, measLayout, viewLayout, xyzLayout, cicpLayout};
 
 // small_chad::read_chad_tag. Nine words: the matrix, row by row.
 #[no_mangle]
@@ -13,9 +13,9 @@ pub extern "C" fn khalyksor_read_chad_tag(
     size: u32,
     out: &mut [u64],
 ) -> u32
-    ensures { λ r. ⌜ Gave (within 9 (now (out .entry)) (smallExported (chadOf (now (profile .entry)) offset size))) r (now (out .entry)) (now (out .exit)) ⌝ }
+    ensures { λ r. ⌜ Gave (always chadLayout) (within (chadLayout .words) (now (out .entry)) (smallExported (chadOf (now (profile .entry)) offset size))) r (now (out .entry)) (now (out .exit)) ⌝ }
 {
-    if out.len() < 9 {
+    if out.len() < export_small::CHAD.words {
         return NO_ROOM;
     }
     let got = small_chad::read_chad_tag(profile, Entry(offset), size);
@@ -30,9 +30,9 @@ pub extern "C" fn khalyksor_read_tech_tag(
     size: u32,
     out: &mut [u64],
 ) -> u32
-    ensures { λ r. ⌜ Gave (within 1 (now (out .entry)) (smallExported (sigOf (now (profile .entry)) offset size))) r (now (out .entry)) (now (out .exit)) ⌝ }
+    ensures { λ r. ⌜ Gave (always sigLayout) (within (sigLayout .words) (now (out .entry)) (smallExported (sigOf (now (profile .entry)) offset size))) r (now (out .entry)) (now (out .exit)) ⌝ }
 {
-    if out.len() < 1 {
+    if out.len() < export_small::SIG.words {
         return NO_ROOM;
     }
     let got = small_raw::read_tech_tag(profile, Entry(offset), size);
@@ -47,9 +47,9 @@ pub extern "C" fn khalyksor_read_date_time_tag(
     size: u32,
     out: &mut [u64],
 ) -> u32
-    ensures { λ r. ⌜ Gave (within 12 (now (out .entry)) (smallExported (dateOf (now (profile .entry)) offset size))) r (now (out .entry)) (now (out .exit)) ⌝ }
+    ensures { λ r. ⌜ Gave (always dateLayout) (within (dateLayout .words) (now (out .entry)) (smallExported (dateOf (now (profile .entry)) offset size))) r (now (out .entry)) (now (out .exit)) ⌝ }
 {
-    if out.len() < 12 {
+    if out.len() < export_small::DATE.words {
         return NO_ROOM;
     }
     let got = small_raw::read_date_time_tag(profile, Entry(offset), size);
@@ -64,9 +64,9 @@ pub extern "C" fn khalyksor_read_meas_tag(
     size: u32,
     out: &mut [u64],
 ) -> u32
-    ensures { λ r. ⌜ Gave (within 7 (now (out .entry)) (smallExported (measOf (now (profile .entry)) offset size))) r (now (out .entry)) (now (out .exit)) ⌝ }
+    ensures { λ r. ⌜ Gave (always measLayout) (within (measLayout .words) (now (out .entry)) (smallExported (measOf (now (profile .entry)) offset size))) r (now (out .entry)) (now (out .exit)) ⌝ }
 {
-    if out.len() < 7 {
+    if out.len() < export_small::MEAS.words {
         return NO_ROOM;
     }
     let got = small_xyz::read_meas_tag(profile, Entry(offset), size);
@@ -81,9 +81,9 @@ pub extern "C" fn khalyksor_read_viewing_conditions(
     size: u32,
     out: &mut [u64],
 ) -> u32
-    ensures { λ r. ⌜ Gave (within 7 (now (out .entry)) (smallExported (viewOf (now (profile .entry)) offset size))) r (now (out .entry)) (now (out .exit)) ⌝ }
+    ensures { λ r. ⌜ Gave (always viewLayout) (within (viewLayout .words) (now (out .entry)) (smallExported (viewOf (now (profile .entry)) offset size))) r (now (out .entry)) (now (out .exit)) ⌝ }
 {
-    if out.len() < 7 {
+    if out.len() < export_small::VIEW.words {
         return NO_ROOM;
     }
     let got = small_xyz::read_viewing_conditions(profile, Entry(offset), size);
@@ -98,9 +98,9 @@ pub extern "C" fn khalyksor_read_xyz_tag(
     size: u32,
     out: &mut [u64],
 ) -> u32
-    ensures { λ r. ⌜ Gave (within 3 (now (out .entry)) (smallExported (xyzOf (now (profile .entry)) offset size))) r (now (out .entry)) (now (out .exit)) ⌝ }
+    ensures { λ r. ⌜ Gave (always xyzLayout) (within (xyzLayout .words) (now (out .entry)) (smallExported (xyzOf (now (profile .entry)) offset size))) r (now (out .entry)) (now (out .exit)) ⌝ }
 {
-    if out.len() < 3 {
+    if out.len() < export_small::XYZ.words {
         return NO_ROOM;
     }
     let got = small_xyz::read_xyz_tag(profile, Entry(offset), size);
@@ -115,9 +115,9 @@ pub extern "C" fn khalyksor_read_cicp_tag(
     size: u32,
     out: &mut [u64],
 ) -> u32
-    ensures { λ r. ⌜ Gave (within 4 (now (out .entry)) (smallExported (cicpOf (now (profile .entry)) offset size))) r (now (out .entry)) (now (out .exit)) ⌝ }
+    ensures { λ r. ⌜ Gave (always cicpLayout) (within (cicpLayout .words) (now (out .entry)) (smallExported (cicpOf (now (profile .entry)) offset size))) r (now (out .entry)) (now (out .exit)) ⌝ }
 {
-    if out.len() < 4 {
+    if out.len() < export_small::CICP.words {
         return NO_ROOM;
     }
     let got = small_raw::read_cicp_tag(profile, Entry(offset), size);

@@ -7,12 +7,9 @@ ghost use lib.ListN.{length};
 ghost use Rattle.export_curve.specs.Layout.{walkOf};
 ghost use Rattle.lut_meaning.specs.Lut.{lutOf, slotsAfter};
 ghost use Rattle.lut_view_meaning.specs.View.{entryOf, tableBy};
-ghost use Rattle.export_words.specs.Told.{within, Gave, GaveWith};
-ghost use Rattle.export_lut.specs.Layout.{lutExported, entryExported};
+ghost use Rattle.export_words.specs.Exported.{always, within, Gave, GaveWith};
+ghost use Rattle.export_lut.specs.Layout.{lutExported, entryExported, lutLayout, abmLayout, entryLayout};
 ghost use Rattle.exports.specs.View.{numbersBy};
-
-// The words of the longest layout, that of `mAB ` and `mBA `.
-const LUT_WORDS: usize = 37;
 
 // lut::read_lut_tag. Walk 0 is the crate walk, any other number the book walk. The type's signature, and then: `mft1`, `mft2` input and output
 // channels, grid points, input and output entries, nine matrix numbers, start and length of the input table, the colour table and the
@@ -30,9 +27,9 @@ pub extern "C" fn khalyksor_read_lut_tag(
     slots: &mut [u32],
     out: &mut [u64],
 ) -> u32
-    ensures { λ r. ⌜ GaveWith 37 (lutExported (lutOf (walkOf walk) limit points (now (profile .entry)) offset size (length (now (slots .entry))))) (slotsAfter (walkOf walk) limit points (now (profile .entry)) offset size (now (slots .entry))) r (now (out .entry)) (now (out .exit)) (now (slots .entry)) (now (slots .exit)) ⌝ }
+    ensures { λ r. ⌜ GaveWith lutLayout (abmLayout .words) (lutExported (lutOf (walkOf walk) limit points (now (profile .entry)) offset size (length (now (slots .entry))))) (slotsAfter (walkOf walk) limit points (now (profile .entry)) offset size (now (slots .entry))) r (now (out .entry)) (now (out .exit)) (now (slots .entry)) (now (slots .exit)) ⌝ }
 {
-    if out.len() < LUT_WORDS {
+    if out.len() < export_lut::ABM.words {
         return NO_ROOM;
     }
     let got = lut::read_lut_tag(
@@ -63,9 +60,9 @@ pub extern "C" fn khalyksor_entry_at(
     channel: u8,
     out: &mut [u64],
 ) -> u32
-    ensures { λ r. ⌜ Gave (within 1 (now (out .entry)) (entryExported (entryOf (now (tag .entry)) (tableBy (now (tag .entry)) (numbersBy start size inputs outputs at step)) (now (index .entry)) channel))) r (now (out .entry)) (now (out .exit)) ⌝ }
+    ensures { λ r. ⌜ Gave (always entryLayout) (within (entryLayout .words) (now (out .entry)) (entryExported (entryOf (now (tag .entry)) (tableBy (now (tag .entry)) (numbersBy start size inputs outputs at step)) (now (index .entry)) channel))) r (now (out .entry)) (now (out .exit)) ⌝ }
 {
-    if out.len() < 1 {
+    if out.len() < export_lut::ENTRY.words {
         return NO_ROOM;
     }
     let numbers = TableNumbers {

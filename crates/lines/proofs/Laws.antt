@@ -1,17 +1,17 @@
 -- The pieces of a number's text make the whole.
 -- Assumes nothing.
-use Prim.Native.Nat.{ℕ, _+_, _-_, _^_, _≤_, _<_}
+use Prim.Native.Nat.{ℕ, _+_, _-_, _%_, _^_, _≤_, _<_}
 use native.Mathlib.Omega.{arith}
 use mathlib.Core.Path.{_≡_, refl, sym, ap, _∙_}
-use mathlib.Core.List.{List, [], _∷_, _++_, append-assoc, append-nil}
+use mathlib.Core.List.{List, [], _∷_}
 use native.Mathlib.Numerals.{add-one}
-use lib.ListN.{length, getD, take}
-use lib.Seq.{take-suc, take-all}
-use borrow.Author.Tests.{lt-ltb, le-ltb}
+use lib.ListN.{length, getD, drop, drop-of-length-le}
+use lib.Seq.{drop-cons}
+use borrow.Author.Tests.{lt-ltb, le-ltb, le-leb, lt-leb}
 use Rattle.io.specs.Digits.{digits, Fewest}
 use Rattle.fields.specs.Bytes.{signed}
-use Rattle.lines.specs.Text.{Wrote, number, numeral, row}
-use Rattle.lines.proofs.Writing.{joined, nothing}
+use Rattle.lines.specs.Text.{Wrote, number, numeral, rowFrom, wordText}
+use Rattle.lines.proofs.Writing.{joined, nothing, wrote-length}
 use Rattle.lines.proofs.Digits.{is-decimal}
 
 -- a byte, and the digits behind it
@@ -32,25 +32,40 @@ from-half l m o at mid end before w h g v u =
     let e : 2 ^ 32 - 1 - w + 1 ≡ 2 ^ 32 - w = omega arith in
     rw (le-ltb w (2 ^ 31) h, e) (joined v u)
 
--- ---- a row
+-- ---- a word of a row
 
-module _ (text : ℕ → List ℕ) where
-  row-append : (xs ys : List ℕ) → row text (xs ++ ys) ≡ row text xs ++ row text ys
-  unfolding row
-  row-append [] ys = refl
-  row-append (x ∷ xs) ys = rw (row-append xs ys) (sym (append-assoc (text x) (row text xs) (row text ys)))
+pub before-signed : (l o : List ℕ) (at end from to i w : ℕ) → i < from → Wrote l o at end (number 32 w) → Wrote l o at end (wordText from to i w)
+unfolding wordText
+before-signed l o at end from to i w h v = rw (lt-ltb _ _ h) v
 
-  one-more : (ws : List ℕ) (i : ℕ) → i < length ws → row text (take (i + 1) ws) ≡ row text (take i ws) ++ text (getD ws i 0)
-  unfolding row
-  one-more ws i h =
-      rw (add-one, take-suc ws i 0 h) (row-append (take i ws) (getD ws i 0 ∷ []) ∙ ap (λ (y : List ℕ). row text (take i ws) ++ y) (append-nil (text (getD ws i 0))))
+pub behind-signed : (l o : List ℕ) (at end from to i w : ℕ) → from ≤ i → to ≤ i → Wrote l o at end (number 32 w) → Wrote l o at end (wordText from to i w)
+unfolding wordText
+behind-signed l o at end from to i w h g v = rw (le-ltb _ _ h, le-leb _ _ g) v
 
-  pub row-begin : (l ws : List ℕ) (at : ℕ) → Wrote l l at at (row text (take 0 ws))
-  unfolding row
-  row-begin l ws at = nothing l at
+pub among-signed : (l o : List ℕ) (at end from to i w k : ℕ) → from ≤ i → i < to → k ≡ w % 2 ^ 32 → Wrote l o at end (numeral 32 (signed k)) → Wrote l o at end (wordText from to i w)
+unfolding wordText
+among-signed l o at end from to i w k h g e v = rw (le-ltb _ _ h, lt-leb _ _ g) (rw e at v)
 
-  pub row-turn : (l m n ws : List ℕ) (at mid end i : ℕ) → i < length ws → Wrote l m at mid (row text (take i ws)) → Wrote m n mid end (text (getD ws i 0)) → Wrote l n at end (row text (take (i + 1) ws))
-  row-turn l m n ws at mid end i h w v = rw (one-more ws i h) (joined w v)
+-- ---- the loop that writes a row: what is left to write makes the whole
 
-  pub row-end : (l m ws : List ℕ) (at end i : ℕ) → length ws ≤ i → Wrote l m at end (row text (take i ws)) → Wrote l m at end (row text ws)
-  row-end l m ws at end i h w = rw (take-all i ws h) at w
+module _ (text : ℕ → ℕ → List ℕ) where
+  pub record Going (l : List ℕ) (at first : ℕ) (ws m : List ℕ) (end i : ℕ) : Type 0 where
+    pub same : length m ≡ length l
+    pub whole : {n : List ℕ} {r : ℕ} → Wrote m n end r (rowFrom text i (drop i ws)) → Wrote l n at r (rowFrom text first (drop first ws))
+
+  pub row-begins : (l : List ℕ) (at first : ℕ) (ws : List ℕ) → Going l at first ws l at first
+  row-begins l at first ws = record { same = refl; whole = λ w. w }
+
+  pub row-turns : (l : List ℕ) (at first : ℕ) (ws m : List ℕ) (end i : ℕ) (n : List ℕ) (next : ℕ) → Going l at first ws m end i → i < length ws → Wrote m n end next (text i (getD ws i 0)) → Going l at first ws n next (i + 1)
+  unfolding rowFrom
+  row-turns l at first ws m end i n next g h v =
+      let d : drop i ws ≡ getD ws i 0 ∷ drop (i + 1) ws = drop-cons ws i 0 h ∙ ap (λ (k : ℕ). getD ws i 0 ∷ drop k ws) (sym (add-one i)) in
+      record { same = wrote-length v ∙ g .same; whole = λ w. g .whole (rw d (joined v w)) }
+
+  pub row-ends : (l : List ℕ) (at first : ℕ) (ws m : List ℕ) (end i : ℕ) → Going l at first ws m end i → length ws ≤ i → Wrote l m at end (rowFrom text first (drop first ws))
+  unfolding rowFrom
+  row-ends l at first ws m end i g h = g .whole (rw (drop-of-length-le ws {i = i} h) (nothing m end))
+
+  -- of a row from its first word on
+  pub row-ends-all : (l : List ℕ) (at : ℕ) (ws m : List ℕ) (end i : ℕ) → Going l at 0 ws m end i → length ws ≤ i → Wrote l m at end (rowFrom text 0 ws)
+  row-ends-all l at ws m end i g h = row-ends l at 0 ws m end i g h

@@ -1,9 +1,9 @@
 -- Text, as a list of ASCII codes, and what it means to have written it.
-use Prim.Native.Nat.{ℕ, zero, suc, _+_, _-_, _/_, _%_, min}
+use Prim.Native.Nat.{ℕ, zero, suc, _+_, _-_, _/_, _%_, _^_, min}
 use mathlib.Core.Path.{_≡_}
-use mathlib.Core.Bool.{cond}
+use mathlib.Core.Bool.{cond, _||_}
 use mathlib.Core.List.{List, [], _∷_, _++_}
-use lib.Dec.{ltb}
+use lib.Dec.{ltb, leb}
 use lib.IntN.{ℤ, pos, negsuc}
 use lib.ListN.{length}
 use lib.Seq.{sets}
@@ -27,21 +27,18 @@ unfoldable pub numeral : ℕ → ℤ → List ℕ
 numeral before (pos n) = number before n
 numeral before (negsuc n) = before ∷ number 45 (n + 1)
 
--- a text for each of a row
-unfoldable pub row : (ℕ → List ℕ) → List ℕ → List ℕ
-row text [] = []
-row text (n ∷ ns) = text n ++ row text ns
-
--- words as signed numbers, each behind a space
-abbrev pub spaced : ℕ → List ℕ
-spaced w = numeral 32 (signed w)
-
-unfoldable pub numerals : List ℕ → List ℕ
-numerals ws = row spaced ws
+-- a text for each of a row, by its place and by the word; the first stands at place i
+unfoldable pub rowFrom : (ℕ → ℕ → List ℕ) → ℕ → List ℕ → List ℕ
+rowFrom text i [] = []
+rowFrom text i (w ∷ ws) = text i w ++ rowFrom text (i + 1) ws
 
 -- numbers, each behind a space
 unfoldable pub numbers : List ℕ → List ℕ
-numbers ns = row (number 32) ns
+numbers ns = rowFrom (λ i n. number 32 n) 0 ns
+
+-- a word behind a space: those at the places from `from` up to `to` are signed, 32 bits in two's complement
+unfoldable pub wordText : ℕ → ℕ → ℕ → ℕ → List ℕ
+wordText from to i w = cond (ltb i from || leb to i) (number 32 w) (numeral 32 (signed (w % 2 ^ 32)))
 
 -- the text stands in the buffer from `at` on, as far as there is room; the rest of the buffer stays; `end` is where the written
 -- part ends

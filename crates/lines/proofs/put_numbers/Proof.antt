@@ -1,17 +1,19 @@
--- `lines::put_numbers` meets its contract: at each turn the words passed are written.
+-- `lines::put_numbers` meets its contract: what is left to write makes the whole.
 -- Assumes nothing.
-use Prim.Native.Nat.{_-_, _≤_}
-use native.Mathlib.Omega.{arith}
-use lib.ListN.{length, take}
+use Prim.Native.Nat.{ℕ, _-_}
+use mathlib.Core.List.{List}
+use lib.ListN.{length}
 use borrow.Author.Needs.{needs}
-use Rattle.lines.specs.Text.{Wrote, number, row, numbers}
-use Rattle.lines.proofs.Laws.{row-begin, row-turn, row-end}
-use Rattle.lines.proofs.Writing.{wrote-length}
+use Rattle.lines.specs.Text.{number, numbers}
+use Rattle.lines.proofs.Laws.{Going, row-begins, row-turns, row-ends-all}
 use Rattle.lines.proofs.put_numbers.Statement.{statement}
 use Rattle.lines.proofs.put_numbers.Tie as tie
 
+abbrev spaced : ℕ → ℕ → List ℕ
+spaced i n = number 32 n
+
 abbrev Inv-loop : tie.InvT-loop
-Inv-loop out₀ at words end₀ i₀ out end i = (i ≤ length words) × Wrote out₀ out at end (row (number 32) (take i words))
+Inv-loop out₀ at words end₀ i₀ out end i = Going spaced out₀ at 0 words out end i
 
 abbrev μ-loop : tie.MeasureT-loop
 μ-loop out₀ at words end₀ i₀ out end i = length words - i
@@ -23,13 +25,13 @@ put-numbers-spec =
     (tie.spec
     Inv-loop
     μ-loop
-    (λ c. (omega arith, search (needs, row-begin (number 32))))
+    (λ c. search (needs, row-begins spaced))
     (λ c. search needs)
     (λ c. search needs)
     (λ c. search (needs, c .shared-slice-known2 .given (c .before .before .before .loop .i)))
     (λ c κs. search needs)
     (λ c. search needs)
     (λ c. search needs)
-    (λ c. (omega arith, search (needs, row-turn (number 32))))
-    (λ c. search (needs, wrote-length))
-    (λ c. search (needs, row-end (number 32))))
+    (λ c. search (needs, row-turns spaced))
+    (λ c. search needs)
+    (λ c. search (needs, row-ends-all spaced)))

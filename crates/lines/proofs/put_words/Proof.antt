@@ -1,34 +1,31 @@
--- `lines::put_words` meets its contract: at each turn the words passed are written.
+-- `lines::put_words` meets its contract: what is left to write makes the whole.
 -- Assumes nothing.
-use Prim.Native.Nat.{_-_, _≤_}
-use native.Mathlib.Omega.{arith}
-use lib.ListN.{length, take}
+use Prim.Native.Nat.{_-_}
+use lib.ListN.{length}
 use borrow.Author.Needs.{needs}
-use Rattle.lines.specs.Text.{Wrote, row, spaced, numerals}
-use Rattle.lines.proofs.Laws.{row-begin, row-turn, row-end}
-use Rattle.lines.proofs.Writing.{wrote-length}
+use Rattle.lines.specs.Text.{wordText}
+use Rattle.lines.proofs.Laws.{Going, row-begins, row-turns, row-ends}
 use Rattle.lines.proofs.put_words.Statement.{statement}
 use Rattle.lines.proofs.put_words.Tie as tie
 
 abbrev Inv-loop : tie.InvT-loop
-Inv-loop out₀ at words end₀ i₀ out end i = (i ≤ length words) × Wrote out₀ out at end (row spaced (take i words))
+Inv-loop out₀ at words first from to end₀ i₀ out end i = Going (wordText from to) out₀ at first words out end i
 
 abbrev μ-loop : tie.MeasureT-loop
-μ-loop out₀ at words end₀ i₀ out end i = length words - i
+μ-loop out₀ at words first from to end₀ i₀ out end i = length words - i
 
 pub put-words-spec : {M : Type 1} → statement M
-unfolding numerals
 put-words-spec =
     tie.close
     (tie.spec
     Inv-loop
     μ-loop
-    (λ c. (omega arith, search (needs, row-begin spaced)))
+    (λ c. search (needs, row-begins))
     (λ c. search needs)
     (λ c. search needs)
     (λ c κs. search needs)
     (λ c. search needs)
     (λ c. search needs)
-    (λ c. (omega arith, search (needs, row-turn spaced)))
-    (λ c. search (needs, wrote-length))
-    (λ c. search (needs, row-end spaced)))
+    (λ c. search (needs, row-turns))
+    (λ c. search needs)
+    (λ c. search (needs, row-ends)))
