@@ -18,6 +18,9 @@ ghost use lib.ListN.{length};
 ghost use Prim.Native.Nat.{_^_, _<_};
 ghost use Rattle.lut_meaning.specs.Lut.{AnswerAndSlots, tagOf, isAbm, byType, lutOf};
 
+// The shortest tag of a lookup table.
+const SHORTEST: u32 = 48;
+
 // Whether the tag is `mAB ` or `mBA `.
 fn is_abm(tag: &[u8]) -> bool
     ensures { λ r. ⌜ r ≡ isAbm (now (tag .entry)) ⌝ }
@@ -62,7 +65,7 @@ pub fn read_lut_tag(
     let Place::In { from, to } = place else {
         return answer::refused(Refusal::PastProfile);
     };
-    if end < 48 {
+    if end < SHORTEST {
         return answer::refused(Refusal::TagTooShort);
     }
     read_kind(&profile[from..to], limit, points, walk, slots)

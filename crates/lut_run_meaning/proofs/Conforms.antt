@@ -10,6 +10,7 @@ use lib.ListN.{length, getD, drop, length-map, length-append, length-drop}
 use lib.Seq.{getD-at}
 use borrow.Author.Tests.{le-ltb}
 use Rattle.icc.specs.Each.{Each}
+use Rattle.fields.specs.House.{tagSize}
 use Rattle.fields.specs.Checked.{good}
 use Rattle.icc.specs.Curves.{Curve, curveElement}
 use Rattle.icc.specs.Elements.{Stands, PlacedCurve, CurvesFrom}
@@ -46,8 +47,8 @@ next-raised n next h =
 entry-written : (limit : ℕ) (t : List ℕ) (at : ℕ) (c : Curve) → Stands t at (curveElement c) → CurveFits limit c → curveAtOffset limit t at ≡ good (shapeOf c)
 unfolding curveAtOffset
 entry-written limit t at c s f =
-    let l : at + 12 ≤ length t = omega (arith, ap length (s .is), length-append (curveElement c) (s .behind), written-size c, size-least (shapeOf c), length-drop at t) in
-    rw (le-ltb (length t) (at + 12) l, s .is) (written-read limit c (s .behind) f)
+    let l : at + tagSize ≤ length t = omega (arith, ap length (s .is), length-append (curveElement c) (s .behind), written-size c, size-least (shapeOf c), length-drop at t) in
+    rw (le-ltb (length t) (at + tagSize) l, s .is) (written-read limit c (s .behind) f)
 
 -- where the walk steps over a curve, it goes on by its bytes
 over : (walk : Walk) (c d : Placed) (cs : List Placed) → Passes walk (c ∷ d ∷ cs) → stepOf walk (c .shape) ≡ sizeOf (c .shape)
@@ -71,7 +72,7 @@ rest-passes Crate c d cs (_, h) = h
 pub records-are : (cs : List PlacedCurve) → recordsOf (map seenOf cs) ≡ recordsTold cs
 unfolding recordsOf recordsTold
 records-are [] = refl
-records-are (c ∷ cs) = rw (told-words (c .offset + 12) (c .curve), records-are cs)
+records-are (c ∷ cs) = rw (told-words (c .offset + tagSize) (c .curve), records-are cs)
 
 module _ (walk : Walk) (limit : ℕ) (t : List ℕ) where
   reads : (at : ℕ) (cs : List PlacedCurve) → CurvesFrom t at cs → AllFit limit cs → Passes walk (map seenOf cs) → Reads walk limit t at (map seenOf cs)
@@ -122,7 +123,7 @@ module _ (walk : Walk) (limit : ℕ) (t : List ℕ) where
 -- ---- by the records in the slots
 
 -- an empty curve's record behind the words of i others is of kind 0
-kind-0 : (front : List ℕ) (i : ℕ) → length front ≡ i * recordWords → (c : Placed) (rest : List ℕ) → c .shape ≡ empty → getD (front ++ (wordsOf (c .at + 12) (c .shape) ++ rest)) ((i + 0) * recordWords) 0 ≡ 0
+kind-0 : (front : List ℕ) (i : ℕ) → length front ≡ i * recordWords → (c : Placed) (rest : List ℕ) → c .shape ≡ empty → getD (front ++ (wordsOf (c .at + tagSize) (c .shape) ++ rest)) ((i + 0) * recordWords) 0 ≡ 0
 unfolding wordsOf
 kind-0 front i n c rest e =
     let m : length front ≡ (i + 0) * recordWords = omega arith in
@@ -134,9 +135,9 @@ unfolding Passes recordsOf
 passes-by front i n [] rest h = tt
 passes-by front i n (c ∷ []) rest h = tt
 passes-by front i n (c ∷ d ∷ cs) rest h =
-    let w : List ℕ = wordsOf (c .at + 12) (c .shape) in
+    let w : List ℕ = wordsOf (c .at + tagSize) (c .shape) in
     let behind : List ℕ = recordsOf (d ∷ cs) ++ rest in
     let all : front ++ (w ++ recordsOf (d ∷ cs) ++ rest) ≡ front ++ (w ++ behind) = ap (λ (x : List ℕ). front ++ x) (append-assoc w (recordsOf (d ∷ cs)) rest) in
-    let n' : length (front ++ w) ≡ (i + 1) * recordWords = length-append front w ∙ omega (arith, words-length (c .at + 12) (c .shape)) in
+    let n' : length (front ++ w) ≡ (i + 1) * recordWords = length-append front w ∙ omega (arith, words-length (c .at + tagSize) (c .shape)) in
     let next : NoneEmpty (front ++ w ++ behind) (i + 1) (length (d ∷ cs)) = λ k l z. h (k + 1) (omega arith) (ap (λ (x : List ℕ). getD x ((i + (k + 1)) * recordWords) 0) (all ∙ sym (append-assoc front w behind)) ∙ ap (λ (j : ℕ). getD (front ++ w ++ behind) (j * recordWords) 0) (omega arith) ∙ z) in
     (λ e. h 0 (omega arith) (ap (λ (x : List ℕ). getD x ((i + 0) * recordWords) 0) all ∙ kind-0 front i n c behind e), passes-by (front ++ w) (i + 1) n' (d ∷ cs) rest next)

@@ -6,6 +6,7 @@ use mathlib.Core.List.{List}
 use mathlib.Core.Logic.{inl, inr}
 use lib.Dec.{ltb}
 use lib.ListN.{length, drop}
+use Rattle.fields.specs.House.{tagSize}
 use Rattle.fields.proofs.Never.{never}
 use Rattle.fields.specs.Checked.{good, bad}
 use Rattle.fields.proofs.Grow.{Grows, choose}
@@ -23,7 +24,7 @@ pub record Over (r : Run) : Type 0 where
 module _ (walk : Walk) (low high : ℕ) (t : List ℕ) (h : low ≤ high) where
   entry-limit : (at : ℕ) → Grows (No 10) (curveAtOffset low t at) (curveAtOffset high t at)
   unfolding curveAtOffset
-  entry-limit at = choose (No 10) (ltb (length t) (at + 12)) (λ _. inr refl) (λ _. curve-limit low high (drop at t) h)
+  entry-limit at = choose (No 10) (ltb (length t) (at + tagSize)) (λ _. inr refl) (λ _. curve-limit low high (drop at t) h)
 
   stop : (at n m : ℕ) → curveAtOffset low t at ≡ bad m → Grows Over (stops at m) (runAt walk high t at (suc n))
   unfolding runAt

@@ -8,12 +8,13 @@ use lib.ListN.{length, getD, take, drop}
 use lib.Seq.{drop-drop, take-at, drop-at}
 use borrow.Author.Tests.{ne-eqb}
 use Rattle.icc.specs.Each.{Each}
+use Rattle.fields.specs.House.{tagSize}
 use Rattle.curve_meaning.specs.Shape.{Shape, empty, table, para, sizeOf, wordsOf, recordWords}
 use Rattle.lut_run_meaning.specs.Run.{Placed, recordsOf, dataEnd}
 use Rattle.lut_run_meaning.proofs.Writing.{words-length}
 
 -- where the data of a curve end, by the words of its record
-pub words-end : (at : ℕ) (s : Shape) → dataEnd (wordsOf (at + 12) s) ≡ at + sizeOf s
+pub words-end : (at : ℕ) (s : Shape) → dataEnd (wordsOf (at + tagSize) s) ≡ at + sizeOf s
 unfolding wordsOf sizeOf
 words-end at empty = omega arith
 words-end at (table n) = omega arith
@@ -26,15 +27,15 @@ behind w rest k e =
     ap (λ (i : ℕ). drop i (w ++ rest)) m ∙ sym (drop-drop (k * recordWords) recordWords (w ++ rest)) ∙ ap (drop (k * recordWords)) (drop-at w rest recordWords e)
 
 -- record k is that of curve k
-pub record-at : (cs : List Placed) (rest : List ℕ) (d : Placed) (k : ℕ) → k < length cs → take recordWords (drop (k * recordWords) (recordsOf cs ++ rest)) ≡ wordsOf (getD cs k d .at + 12) (getD cs k d .shape)
+pub record-at : (cs : List Placed) (rest : List ℕ) (d : Placed) (k : ℕ) → k < length cs → take recordWords (drop (k * recordWords) (recordsOf cs ++ rest)) ≡ wordsOf (getD cs k d .at + tagSize) (getD cs k d .shape)
 unfolding recordsOf
 record-at [] rest d k l = absurd (omega arith)
 record-at (c ∷ cs) rest d zero l =
-    let w : List ℕ = wordsOf (c .at + 12) (c .shape) in
-    ap (take recordWords) (append-assoc w (recordsOf cs) rest) ∙ take-at w (recordsOf cs ++ rest) recordWords (words-length (c .at + 12) (c .shape))
+    let w : List ℕ = wordsOf (c .at + tagSize) (c .shape) in
+    ap (take recordWords) (append-assoc w (recordsOf cs) rest) ∙ take-at w (recordsOf cs ++ rest) recordWords (words-length (c .at + tagSize) (c .shape))
 record-at (c ∷ cs) rest d (suc k) l =
-    let w : List ℕ = wordsOf (c .at + 12) (c .shape) in
-    let e : drop (suc k * recordWords) (w ++ recordsOf cs ++ rest) ≡ drop (k * recordWords) (recordsOf cs ++ rest) = ap (drop (suc k * recordWords)) (append-assoc w (recordsOf cs) rest) ∙ behind w (recordsOf cs ++ rest) k (words-length (c .at + 12) (c .shape)) in
+    let w : List ℕ = wordsOf (c .at + tagSize) (c .shape) in
+    let e : drop (suc k * recordWords) (w ++ recordsOf cs ++ rest) ≡ drop (k * recordWords) (recordsOf cs ++ rest) = ap (drop (suc k * recordWords)) (append-assoc w (recordsOf cs) rest) ∙ behind w (recordsOf cs ++ rest) k (words-length (c .at + tagSize) (c .shape)) in
     ap (take recordWords) e ∙ record-at cs rest d k (omega arith)
 
 -- what holds of each curve holds of curve k

@@ -9,6 +9,7 @@ use lib.Dec.{ltb}
 use lib.ListN.{length, drop, length-drop}
 use borrow.Author.Tests.{ltb-false}
 use Rattle.icc.specs.Each.{Each}
+use Rattle.fields.specs.House.{tagSize}
 use Rattle.fields.proofs.Never.{never}
 use Rattle.fields.specs.Checked.{Checked, good, bad}
 use Rattle.curve_meaning.specs.Curve.{curveOf}
@@ -18,13 +19,13 @@ use Rattle.curve_meaning.proofs.Inside.{curve-inside}
 use Rattle.lut_run_meaning.specs.Run.{Placed, whole, Run, placed, done, stops, first, aligned, curveAtOffset, follow, runAt, CurveStands}
 
 -- a curve that is seen at an offset of the tag is what the bytes there say, and 12 of them there are
-pub entry-there : (limit : ℕ) (t : List ℕ) (at : ℕ) (s : Shape) → curveAtOffset limit t at ≡ good s → (at + 12 ≤ length t) × (curveOf limit (drop at t) ≡ good s)
+pub entry-there : (limit : ℕ) (t : List ℕ) (at : ℕ) (s : Shape) → curveAtOffset limit t at ≡ good s → (at + tagSize ≤ length t) × (curveOf limit (drop at t) ≡ good s)
 unfolding curveAtOffset
-entry-there limit t at s = by (ltb (length t) (at + 12)) refl
+entry-there limit t at s = by (ltb (length t) (at + tagSize)) refl
   where
-    by : (b : Bool) → ltb (length t) (at + 12) ≡ b → cond b (bad 2) (curveOf limit (drop at t)) ≡ good s → (at + 12 ≤ length t) × (curveOf limit (drop at t) ≡ good s)
+    by : (b : Bool) → ltb (length t) (at + tagSize) ≡ b → cond b (bad 2) (curveOf limit (drop at t)) ≡ good s → (at + tagSize ≤ length t) × (curveOf limit (drop at t) ≡ good s)
     by true e h = never cc
-    by false e h = (ltb-false (length t) (at + 12) e, h)
+    by false e h = (ltb-false (length t) (at + tagSize) e, h)
 
 -- and it ends inside the tag
 pub entry-inside : (limit : ℕ) (t : List ℕ) (at : ℕ) (s : Shape) → curveAtOffset limit t at ≡ good s → at + sizeOf s ≤ length t

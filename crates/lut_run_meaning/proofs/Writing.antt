@@ -7,6 +7,7 @@ use mathlib.Core.Path.{_≡_, refl, sym, _∙_, ap}
 use mathlib.Core.List.{List, [], _∷_, _++_, append-assoc}
 use lib.ListN.{length, drop, length-append}
 use lib.Seq.{sets, sets-eq, length-sets}
+use Rattle.fields.specs.House.{tagSize}
 use Rattle.fields.proofs.Never.{never}
 use Rattle.fields.specs.Checked.{Checked, good, bad}
 use Rattle.fields.proofs.Stores.{sets-append}
@@ -26,12 +27,12 @@ words-length start (para type ps) = refl
 pub records-length : (cs : List Placed) → length (recordsOf cs) ≡ length cs * recordWords
 unfolding recordsOf
 records-length [] = refl
-records-length (c ∷ cs) = simp length-append (omega (arith, words-length (c .at + 12) (c .shape), records-length cs))
+records-length (c ∷ cs) = simp length-append (omega (arith, words-length (c .at + tagSize) (c .shape), records-length cs))
 
 pub records-append : (cs ds : List Placed) → recordsOf (cs ++ ds) ≡ recordsOf cs ++ recordsOf ds
 unfolding recordsOf
 records-append [] ds = refl
-records-append (c ∷ cs) ds = rw (records-append cs ds) (sym (append-assoc (wordsOf (c .at + 12) (c .shape)) (recordsOf cs) (recordsOf ds)))
+records-append (c ∷ cs) ds = rw (records-append cs ds) (sym (append-assoc (wordsOf (c .at + tagSize) (c .shape)) (recordsOf cs) (recordsOf ds)))
 
 -- ---- the loop that writes
 
@@ -70,12 +71,12 @@ module _ (walk : Walk) (limit : ℕ) (t : List ℕ) (o n : ℕ) (s₀ : List ℕ
         by (good s) e = record { shape = s; seen = e }
         by (bad m) e = absurd (no-refusal m e)
 
-    pub turns : (s′ : List ℕ) (shape : Shape) → curveAtOffset limit t at ≡ good shape → s′ ≡ sets s (i * recordWords) (wordsOf (at + 12) shape) → Writing s′ (aligned (at + stepOf walk shape)) (i + 1)
+    pub turns : (s′ : List ℕ) (shape : Shape) → curveAtOffset limit t at ≡ good shape → s′ ≡ sets s (i * recordWords) (wordsOf (at + tagSize) shape) → Writing s′ (aligned (at + stepOf walk shape)) (i + 1)
     unfolding recordsOf
     turns s′ shape seen p =
-        let ws : List ℕ = wordsOf (at + 12) shape in
+        let ws : List ℕ = wordsOf (at + tagSize) shape in
         let e : runAt walk limit t at (n - i) ≡ first (placed at shape) (runAt walk limit t (aligned (at + stepOf walk shape)) (n - (i + 1))) = ap (runAt walk limit t at) less ∙ run-turn walk limit t at (n - (i + 1)) shape seen in
-        let k : (i + 1) * recordWords ≡ i * recordWords + length ws = omega (arith, words-length (at + 12) shape) in
+        let k : (i + 1) * recordWords ≡ i * recordWords + length ws = omega (arith, words-length (at + tagSize) shape) in
         let rest : List ℕ = recordsOf (runAt walk limit t (aligned (at + stepOf walk shape)) (n - (i + 1)) .curves) in
         let f : recordsOf (runAt walk limit t at (n - i) .curves) ≡ ws ++ rest = ap (λ (r : Run). recordsOf (r .curves)) e in
         record {
