@@ -19,14 +19,14 @@ use Rattle.fields.specs.declared.Place.{Place}
 use Rattle.fields.specs.declared.Place.the-variants.{In, Past}
 use Rattle.fields.specs.declared.Refusal.{Refusal}
 use Rattle.fields.proofs.Located.{inside, past, part-is}
-use Rattle.lut_clut_meaning.specs.Answer.{inNumbers as clutPaper, answerOf, Answer, value as clutValue, refused as clutRefused}
+use Rattle.lut_clut_meaning.specs.Answer.{inNumbers as clutPaper, answerOf, Answer as Clut·Answer, value as clutValue, refused as clutRefused}
 use Rattle.lut_clut_meaning.specs.Clut.{clutOf}
 use Rattle.lut_clut_meaning.specs.Table.{Table, product, lengthOf}
 use Rattle.lut_clut_meaning.specs.declared.ClutAnswer.{ClutAnswer}
 use Rattle.lut_clut_meaning.specs.declared.ColourTable.{ColourTable}
 use Rattle.curve_meaning.specs.Shape.{recordWords}
 use Rattle.curve_meaning.specs.declared.Walk.{Walk}
-use Rattle.lut_mft_meaning.specs.Answer.{State as Mft·State, fieldsFrom, answerOf, inNumbers as Mft·inNumbers}
+use Rattle.lut_mft_meaning.specs.Answer.{State as Mft·State, fieldsFrom, answerOf as Mft·answerOf, inNumbers as Mft·inNumbers}
 use Rattle.lut_mft_meaning.specs.Layout.{isMft}
 use Rattle.lut_mft_meaning.specs.Mft.{mftOf}
 use Rattle.lut_mft_meaning.specs.declared.Mft.{Mft}
@@ -60,7 +60,7 @@ module _ (t : List ℕ) (at : ℕ) (h : at ≡ u32At t 24) where
   unfolding colourTableOf answerOf product
   table-none e = simp (← h, eq-eqb _ _ e)
 
-  pub table-there : (at ≡ 0 → ⊥) → (i o : ℕ) → i ≡ getD t 8 0 → o ≡ getD t 9 0 → (r : Answer) → r ≡ answerOf (clutOf t at i o) → r ≡ answerOf (colourTableOf t)
+  pub table-there : (at ≡ 0 → ⊥) → (i o : ℕ) → i ≡ getD t 8 0 → o ≡ getD t 9 0 → (r : Clut·Answer) → r ≡ answerOf (clutOf t at i o) → r ≡ answerOf (colourTableOf t)
   unfolding colourTableOf
   table-there e i o ei eo r w = simp (← h, ne-eqb _ _ e, ← ei, ← eo) w
 
@@ -190,9 +190,9 @@ module _ (t : List ℕ) (w : ℕ) (h : w ≡ u32At t 0) where
   abm-second n = rw (← h, ne-eqb _ _ n)
 
 module _ (walk : Walk) (limit points : ℕ) (t s : List ℕ) (b : Bool) (h : b ≡ isMft t) (r : Lut) where
-  pub kind-mft : b ≡ true → (got : Mft) → Mft·inNumbers got ≡ answerOf t (mftOf points t) → inNumbers r ≡ fromMft (Mft·inNumbers got) → AnswerAndSlots walk limit t (byType walk limit points t (length s)) r s s
+  pub kind-mft : b ≡ true → (got : Mft) → Mft·inNumbers got ≡ Mft·answerOf t (mftOf points t) → inNumbers r ≡ fromMft (Mft·inNumbers got) → AnswerAndSlots walk limit t (byType walk limit points t (length s)) r s s
   unfolding byType
-  kind-mft i got e g = rw (← h, i) record { answer-is = g ∙ ap fromMft e; slots-are = sym (mft-leaves (answerOf t (mftOf points t) .state) _ s) }
+  kind-mft i got e g = rw (← h, i) record { answer-is = g ∙ ap fromMft e; slots-are = sym (mft-leaves (Mft·answerOf t (mftOf points t) .state) _ s) }
 
   module _ (i : b ≡ false) (a : Bool) (k : a ≡ isAbm t) where
     -- by the other two types

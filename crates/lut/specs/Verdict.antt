@@ -1,4 +1,5 @@
 -- What a verdict of the code says, and what a curve's step says of its run.
+use Prim.Native.Nat.{ℕ}
 use Rattle.fields.specs.Checked.{Checked, good, bad}
 use Rattle.fields.specs.Refusals.{refusalNumber}
 use Rattle.lut.specs.declared.nested.Verdict.{Verdict}

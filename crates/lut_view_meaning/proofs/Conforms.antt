@@ -22,7 +22,7 @@ use Rattle.lut_clut_meaning.proofs.Order.{in-grid, order-at}
 use Rattle.curve_meaning.specs.declared.Walk.{Walk}
 use Rattle.lut_mft_meaning.specs.Standard.{fieldsTold16, fieldsTold8}
 use Rattle.lut_mft_meaning.proofs.Conforms.{apart}
-use Rattle.lut_meaning.specs.Answer.{Abm, abm, Answer, mft}
+use Rattle.lut_meaning.specs.Answer.{Abm, abm, Answer as Lut·Answer, mft}
 use Rattle.lut_meaning.specs.Lut.{lutOf}
 use Rattle.lut_meaning.specs.Standard.{startTold, bytesTold, sizeTold, gridTold, ClutFits, answerTold, PartsTaken}
 use Rattle.lut_view_meaning.specs.Answer.{Answer, value}
@@ -58,7 +58,7 @@ module _ (walk : Walk) (limit points : ℕ) (p : List ℕ) (entry size slots : �
   abbrev t : List ℕ
   t = take size (drop entry p)
 
-  abbrev shown : Answer → List ℕ → ℕ → Answer
+  abbrev shown : Lut·Answer → List ℕ → ℕ → Answer
   shown a point channel = entryOf t (tableBy t (numbersOf (a .state))) point channel
 
   -- the entries of an element stand behind its first 20 bytes
@@ -78,7 +78,7 @@ module _ (walk : Walk) (limit points : ℕ) (p : List ℕ) (entry size slots : �
   clut-colours (no-clut z) k d a m b matrix bias e = λ point channel. empty-absent t _ point channel refl
   clut-colours {offset} {i} {o} (the-clut n c s z) k d a m b matrix bias e =
       let f : Abm = record { toPcs = d; inputs = i; outputs = o; start = offset + 20; bytes = length (entryBytes (c .entries)); size = precision (c .entries); a = a; m = m; b = b } in
-      let w = abm-shows walk limit points p entry size slots low-size f (ap (λ (x : Answer). x .state) e) (precision-least (c .entries)) in
+      let w = abm-shows walk limit points p entry size slots low-size f (ap (λ (x : Lut·Answer). x .state) e) (precision-least (c .entries)) in
       let few : min i 16 ≡ length (c .grid) = omega (arith, z .dimensions, z .sixteen) in
       let g : take (min i 16) (lutOf walk limit points p entry size slots .grid) ≡ c .grid = rw (e, few) (take-at (c .grid) (c .unused) (length (c .grid)) refl) in
       let all : length (numbers (c .entries)) ≡ product (c .grid) * o = z .all-entries ∙ ap (λ (q : ℕ). q * o) (points-are (c .grid)) in
