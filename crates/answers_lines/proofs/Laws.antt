@@ -1,41 +1,32 @@
--- The pieces of a line make the whole, and each way out is a law of what is answered.
+-- The pieces of a line make the whole, and each way out is a law of what is told.
 -- Assumes nothing.
-use Prim.Native.Nat.{ℕ, _+_, _-_, _≤_, _<_}
+use Prim.Native.Nat.{ℕ, _+_, _/_, _%_, _≤_, _<_}
 use native.Mathlib.Omega.{arith}
 use mathlib.Core.Path.{_≡_, refl, sym, ap, _∙_}
+use mathlib.Core.Bool.{Bool, true, false, cond, _||_}
 use mathlib.Core.List.{List, [], _∷_}
-use lib.Dec.{ltb}
 use lib.ListN.{length, getD, take, drop, set}
 use lib.Seq.{sets}
-use borrow.Author.Tests.{ne-eqb, lt-ltb, ltb-false}
-use Rattle.fields.specs.Place.{placeOf, countedSize}
-use Rattle.fields.specs.declared.Place.{Place}
-use Rattle.fields.specs.declared.Place.the-variants.{In, Past}
+use lib.Dec.{eqb}
+use borrow.Author.Tests.{eq-eqb, ne-eqb}
 use Rattle.fields.proofs.Choice.{each}
-use Rattle.fields.proofs.Located.{inside, past, part-is}
 use Rattle.fields.proofs.Stores.{fill-begins, fill-turns, fill-ends}
-use Rattle.lines.specs.Text.{Wrote}
+use Rattle.lines.specs.Text.{Wrote, number, numbers, rowFrom, wordText}
 use Rattle.lines.proofs.Writing.{joined, nothing}
-use Rattle.curve_meaning.specs.declared.Walk.{Walk}
 use Rattle.curve_meaning.specs.declared.Walk.the-variants.{Crate, Book}
-use Rattle.lut_meaning.specs.Answer.{refuse, stateFrom, inNumbers}
-use Rattle.lut_meaning.specs.Lut.{tagOf, lutOf, AnswerAndSlots as Lut·AnswerAndSlots}
-use Rattle.lut_meaning.specs.declared.Lut.{Lut}
-use Rattle.lut_meaning.specs.declared.LutAnswer.{LutAnswer}
-use Rattle.text_meaning.specs.Answer.{inNumbers as Text·inNumbers}
-use Rattle.text_meaning.specs.Text.{stringOf, tagOf as Text·tagOf, AnswerAndSlots as Text·AnswerAndSlots}
-use Rattle.text_meaning.specs.declared.TextAnswer.{TextAnswer}
-use Rattle.lut_view_meaning.specs.Answer.{Answer}
-use Rattle.lut_view_meaning.specs.View.{tableBy, numbersOf, entryOf}
-use Rattle.lut_view_meaning.specs.declared.TableNumbers.{TableNumbers}
-use Rattle.answers_jobs.specs.Stream.{tailOf}
+use Rattle.small_meaning.specs.Small.{chadOf, sigOf, dateOf, measOf, viewOf, xyzOf, cicpOf}
+use Rattle.text_meaning.specs.Text.{stringOf, slotsAfter as Text·slotsAfter}
+use Rattle.export_words.specs.Exported.{always, within, Gave, GaveWith}
+use Rattle.export_words.specs.declared.Layout.{Layout}
+use Rattle.export_words.proofs.Telling.{no-words, was-told, was-told-slots}
+use Rattle.export_curve.specs.Layout.{curveLayout}
+use Rattle.export_lut.specs.Layout.{lutLayout, abmLayout}
+use Rattle.export_small.specs.Layout.{smallExported, chadLayout, sigLayout, dateLayout, measLayout, viewLayout, xyzLayout, cicpLayout}
+use Rattle.export_text.specs.Layout.{textExported, stringLayout, descLayout}
 use Rattle.answers_jobs.specs.declared.StreamIndex.{StreamIndex}
 use Rattle.answers_jobs.specs.declared.StreamJob.{StreamJob}
-use Rattle.answers_jobs.specs.declared.StreamTail.{StreamTail}
-use Rattle.answers_meaning.specs.Reply.{markAt, marked, Reply, plain, lutAnswer, lutReply, stringReply, viewReply, viewText, entryAt, replyOf, answerOf, Said}
-use Rattle.answers_meaning.specs.Plain.{plainOf}
-use Rattle.answers_meaning.specs.Words.{refusedText}
-use Rattle.answers_meaning.specs.Texts.{lutText, stringText, lentText}
+use Rattle.answers_meaning.specs.Line.{markAt, marked, lutTold, lutWordsAfter, curveTold, toldOf, wordsAfter, layoutOf, several, ToldAndWords}
+use Rattle.answers_meaning.specs.Text.{valueWord, absentWord, defaultWord, nameText, wordsText, exportedText, refusedText, lentText}
 use Rattle.answers_meaning.proofs.Marks.{marks-length, mark-is}
 
 -- ---- the words lent are set
@@ -52,87 +43,136 @@ module _ (n : ℕ) (l : List ℕ) (e : length l ≡ n) where
   pub mark-ends : (i : ℕ) → length l ≤ i → sets l i (drop i (marked n)) ≡ marked n → l ≡ marked n
   mark-ends i h w = fill-ends (marked n) l i (omega (arith, marks-length 0 n)) w
 
--- ---- answers with the lent words behind them
+-- ---- what the exported functions tell, with room for the longest layout
 
-module _ (job : StreamJob) (p w : List ℕ) {k l m after : List ℕ} {e r : ℕ} where
-  pub lut-said : (walk : Walk) {got : Lut} → Lut·AnswerAndSlots walk (job .entries) (tagOf p (job .offset) (job .size)) (lutAnswer job p w walk) got w after → Wrote k l 0 e (lutText (inNumbers got)) → Wrote l m e r (lentText after) → Said (lutReply job p w walk) k m after r
-  lut-said walk s u v = record { written = rw (← s .left-is, ← s .answer-is) (joined u v); left-is = s .left-is }
+module _ (job : StreamJob) (p w b : List ℕ) (index : StreamIndex) {r : ℕ} {out out' : List ℕ} (h : length out ≡ 37) where
+  pub asked-1 : {words' : List ℕ} → job .reader ≡ 1 → GaveWith lutLayout (abmLayout .words) (lutTold job p w Crate) (lutWordsAfter job p w Crate) r out out' w words' → ToldAndWords job p w b index r out out' words'
+  unfolding toldOf layoutOf wordsAfter
+  asked-1 e g = record { gave = rw e (was-told 37 (omega arith) (g .gave)); words-are = rw e (was-told-slots 37 (omega arith) g) }
 
-  pub string-said : {got : TextAnswer} → Text·AnswerAndSlots (Text·tagOf p (job .offset) (job .size)) (stringOf p (job .offset) (job .size) (length w)) got w after → Wrote k l 0 e (stringText (Text·inNumbers got)) → Wrote l m e r (lentText after) → Said (stringReply job p w) k m after r
-  string-said s u v = record { written = rw (← s .left-is, ← s .answer-is) (joined u v); left-is = s .left-is }
+  pub asked-11 : {words' : List ℕ} → job .reader ≡ 11 → GaveWith lutLayout (abmLayout .words) (lutTold job p w Book) (lutWordsAfter job p w Book) r out out' w words' → ToldAndWords job p w b index r out out' words'
+  unfolding toldOf layoutOf wordsAfter
+  asked-11 e g = record { gave = rw e (was-told 37 (omega arith) (g .gave)); words-are = rw e (was-told-slots 37 (omega arith) g) }
 
--- ---- the table view
+  pub asked-3 : {words' : List ℕ} → job .reader ≡ 3 → GaveWith stringLayout (descLayout .words) (textExported (stringOf p (job .offset) (job .size) (length w))) (Text·slotsAfter p (job .offset) (job .size) w) r out out' w words' → ToldAndWords job p w b index r out out' words'
+  unfolding toldOf layoutOf wordsAfter
+  asked-3 e g = record { gave = rw e (was-told 6 (omega arith) (g .gave)); words-are = rw e (was-told-slots 6 (omega arith) g) }
 
-never : {A : Type 0} → _≡_ {A = ℕ} 0 1 → A
-never z = absurd (omega arith)
+  pub asked-2 : job .reader ≡ 2 → Gave (always curveLayout) (within (curveLayout .words) out (curveTold job p w Crate)) r out out' → ToldAndWords job p w b index r out out' w
+  unfolding toldOf layoutOf wordsAfter
+  asked-2 e g = record { gave = rw e (was-told 11 (omega arith) g); words-are = rw e }
 
--- a job's coordinates are there
-pub tail-room : (reader : ℕ) (b : List ℕ) (index : StreamIndex) (n channel : ℕ) → tailOf reader b ≡ StreamTail.Index index → index ≡ StreamIndex.At n channel → 1 + n ≤ length b
-unfolding tailOf
-tail-room reader b index n channel t f =
-    each P (ltb reader 1) _ _ (λ _ e. never (cc))
-    (λ _. each P (ltb 13 reader) _ _ (λ _ e. never (cc))
-    (λ _. each P (ltb reader 13) _ _ (λ _ e. never (cc))
-    (λ _. each P (ltb (length b) 18) _ _ (λ _ e. never (cc))
-    (λ long. each P (ltb 16 (getD b 0 0)) _ _ (λ _ e. never (cc))
-    (λ few e. let q : getD b 0 0 ≡ n = cc in omega (arith, ltb-false (length b) 18 long, ltb-false 16 (getD b 0 0) few)))))) (t ∙ ap StreamTail.Index f)
-  where
-    P : StreamTail → Type 0
-    P x = x ≡ StreamTail.Index (StreamIndex.At n channel) → 1 + n ≤ length b
+  pub asked-12 : job .reader ≡ 12 → Gave (always curveLayout) (within (curveLayout .words) out (curveTold job p w Book)) r out out' → ToldAndWords job p w b index r out out' w
+  unfolding toldOf layoutOf wordsAfter
+  asked-12 e g = record { gave = rw e (was-told 11 (omega arith) g); words-are = rw e }
 
-pub entry-is : (answer : LutAnswer) (t b : List ℕ) (index : StreamIndex) (n channel : ℕ) (v : TableNumbers) (a : Answer) → index ≡ StreamIndex.At n channel → v ≡ numbersOf (stateFrom answer) → a ≡ entryOf t (tableBy t v) (take ((1 + n) - 1) (drop 1 b)) channel → a ≡ entryAt (stateFrom answer) t b index
-unfolding entryAt
-entry-is answer t b index n channel v a e f h = h ∙ rw (e, f, part-is b 1 n)
+  pub asked-4 : job .reader ≡ 4 → Gave (always chadLayout) (within (chadLayout .words) out (smallExported (chadOf p (job .offset) (job .size)))) r out out' → ToldAndWords job p w b index r out out' w
+  unfolding toldOf layoutOf wordsAfter
+  asked-4 e g = record { gave = rw e (was-told 9 (omega arith) g); words-are = rw e }
 
-module _ (job : StreamJob) (p : List ℕ) (place : Place) (end : ℕ) (c : end ≡ countedSize (job .size)) (h : place ≡ placeOf (length p) (job .offset) end) where
-  refuses : (w : List ℕ) → place ≡ Past → lutAnswer job p w Crate ≡ refuse 1
-  unfolding lutOf
-  refuses w e = rw (← c, lt-ltb _ _ (past _ _ _ h e))
+  pub asked-5 : job .reader ≡ 5 → Gave (always sigLayout) (within (sigLayout .words) out (smallExported (sigOf p (job .offset) (job .size)))) r out out' → ToldAndWords job p w b index r out out' w
+  unfolding toldOf layoutOf wordsAfter
+  asked-5 e g = record { gave = rw e (was-told 1 (omega arith) g); words-are = rw e }
 
-  pub view-past : (w b : List ℕ) (index : StreamIndex) {k l : List ℕ} {r : ℕ} → place ≡ Past → Wrote k l 0 r (refusedText 1) → Said (viewReply job p w b index) k l w r
-  unfolding viewText
-  view-past w b index e u = record { written = rw (refuses w e) u; left-is = rw (refuses w e) }
+  pub asked-6 : job .reader ≡ 6 → Gave (always dateLayout) (within (dateLayout .words) out (smallExported (dateOf p (job .offset) (job .size)))) r out out' → ToldAndWords job p w b index r out out' w
+  unfolding toldOf layoutOf wordsAfter
+  asked-6 e g = record { gave = rw e (was-told 12 (omega arith) g); words-are = rw e }
 
-  pub same-tag : (from to : ℕ) → place ≡ In from to → take (to - from) (drop from p) ≡ tagOf p (job .offset) (job .size)
-  same-tag from to e = let i = inside _ _ _ h e in rw (i .from-is, i .to-is, part-is p (job .offset) end, c)
+  pub asked-7 : job .reader ≡ 7 → Gave (always measLayout) (within (measLayout .words) out (smallExported (measOf p (job .offset) (job .size)))) r out out' → ToldAndWords job p w b index r out out' w
+  unfolding toldOf layoutOf wordsAfter
+  asked-7 e g = record { gave = rw e (was-told 7 (omega arith) g); words-are = rw e }
 
-pub view-said : (job : StreamJob) (p w b : List ℕ) (index : StreamIndex) {k l t after : List ℕ} {r : ℕ} {got : Lut} → Lut·AnswerAndSlots Crate (job .entries) (tagOf p (job .offset) (job .size)) (lutAnswer job p w Crate) got w after → t ≡ tagOf p (job .offset) (job .size) → Wrote k l 0 r (viewText (stateFrom (got .answer)) t b index) → Said (viewReply job p w b index) k l after r
-view-said job p w b index s g u = record { written = rw (← s .answer-is) (rw g at u); left-is = s .left-is }
+  pub asked-8 : job .reader ≡ 8 → Gave (always viewLayout) (within (viewLayout .words) out (smallExported (viewOf p (job .offset) (job .size)))) r out out' → ToldAndWords job p w b index r out out' w
+  unfolding toldOf layoutOf wordsAfter
+  asked-8 e g = record { gave = rw e (was-told 7 (omega arith) g); words-are = rw e }
 
--- ---- by the reader
+  pub asked-9 : job .reader ≡ 9 → Gave (always xyzLayout) (within (xyzLayout .words) out (smallExported (xyzOf p (job .offset) (job .size)))) r out out' → ToldAndWords job p w b index r out out' w
+  unfolding toldOf layoutOf wordsAfter
+  asked-9 e g = record { gave = rw e (was-told 3 (omega arith) g); words-are = rw e }
 
-module _ (job : StreamJob) (p w b : List ℕ) (index : StreamIndex) where
-  module _ {a : Reply} {k l after : List ℕ} {r : ℕ} where
-    pub replied : a ≡ replyOf job p w b index → Said a k l after r → Said (replyOf job p w b index) k l after r
-    replied e s = rw e at s
+  pub asked-10 : job .reader ≡ 10 → Gave (always cicpLayout) (within (cicpLayout .words) out (smallExported (cicpOf p (job .offset) (job .size)))) r out out' → ToldAndWords job p w b index r out out' w
+  unfolding toldOf layoutOf wordsAfter
+  asked-10 e g = record { gave = rw e (was-told 4 (omega arith) g); words-are = rw e }
 
-  pub by-1 : job .reader ≡ 1 → lutReply job p w Crate ≡ replyOf job p w b index
-  unfolding replyOf
-  by-1 e = rw e
+-- another reader tells of an absence
+pub asked-none : (job : StreamJob) (p w b : List ℕ) (index : StreamIndex) (out : List ℕ) → (job .reader ≡ 1 → ⊥) → (job .reader ≡ 2 → ⊥) → (job .reader ≡ 3 → ⊥) → (job .reader ≡ 4 → ⊥) → (job .reader ≡ 5 → ⊥) → (job .reader ≡ 6 → ⊥) → (job .reader ≡ 7 → ⊥) → (job .reader ≡ 8 → ⊥) → (job .reader ≡ 9 → ⊥) → (job .reader ≡ 10 → ⊥) → (job .reader ≡ 11 → ⊥) → (job .reader ≡ 12 → ⊥) → (job .reader ≡ 13 → ⊥) → ToldAndWords job p w b index 100 out out w
+unfolding toldOf layoutOf wordsAfter
+asked-none job p w b index out n1 n2 n3 n4 n5 n6 n7 n8 n9 n10 n11 n12 n13 =
+    record {
+      gave = simp (ne-eqb _ _ n1, ne-eqb _ _ n2, ne-eqb _ _ n3, ne-eqb _ _ n4, ne-eqb _ _ n5, ne-eqb _ _ n6, ne-eqb _ _ n7, ne-eqb _ _ n8, ne-eqb _ _ n9, ne-eqb _ _ n10, ne-eqb _ _ n11, ne-eqb _ _ n12, ne-eqb _ _ n13) (no-words 100 100 out refl (λ e. omega arith));
+      words-are = simp (ne-eqb _ _ n1, ne-eqb _ _ n13, ne-eqb _ _ n11, ne-eqb _ _ n3);
+    }
 
-  pub by-3 : job .reader ≡ 3 → stringReply job p w ≡ replyOf job p w b index
-  unfolding replyOf
-  by-3 e = rw e
+-- ---- the pieces of a text
 
-  pub by-11 : job .reader ≡ 11 → lutReply job p w Book ≡ replyOf job p w b index
-  unfolding replyOf
-  by-11 e = rw e
+pub name-short : (s a₃ a₂ a₁ : ℕ) {l m : List ℕ} {at end : ℕ} → a₃ ≡ s / 0x100_0000 % 256 → a₂ ≡ s / 0x1_0000 % 256 → a₁ ≡ s / 0x100 % 256 → s % 256 ≡ 0x20 → Wrote l m at end (0x20 ∷ a₃ ∷ a₂ ∷ a₁ ∷ []) → Wrote l m at end (nameText s)
+unfolding nameText
+name-short s a₃ a₂ a₁ e₃ e₂ e₁ e v = rw (eq-eqb _ _ e, ← e₃, ← e₂, ← e₁) v
 
-  pub by-13 : job .reader ≡ 13 → viewReply job p w b index ≡ replyOf job p w b index
-  unfolding replyOf
-  by-13 e = rw e
+pub name-long : (s a₃ a₂ a₁ a₀ : ℕ) {l m : List ℕ} {at end : ℕ} → a₃ ≡ s / 0x100_0000 % 256 → a₂ ≡ s / 0x1_0000 % 256 → a₁ ≡ s / 0x100 % 256 → a₀ ≡ s % 256 → (s % 256 ≡ 0x20 → ⊥) → Wrote l m at end (0x20 ∷ a₃ ∷ a₂ ∷ a₁ ∷ a₀ ∷ []) → Wrote l m at end (nameText s)
+unfolding nameText
+name-long s a₃ a₂ a₁ a₀ e₃ e₂ e₁ e₀ e v = rw (ne-eqb _ _ e, ← e₃, ← e₂, ← e₁, ← e₀) v
 
-  pub by-others : (job .reader ≡ 1 → ⊥) → (job .reader ≡ 3 → ⊥) → (job .reader ≡ 11 → ⊥) → (job .reader ≡ 13 → ⊥) → plain w (plainOf job p) ≡ replyOf job p w b index
-  unfolding replyOf
-  by-others n1 n3 n11 n13 = simp (ne-eqb _ _ n1, ne-eqb _ _ n3, ne-eqb _ _ n11, ne-eqb _ _ n13)
+module _ (named : Bool) (l : Layout) (first : ℕ) (ws : List ℕ) {k o : List ℕ} {at end : ℕ} where
+  pub value-named : {m : List ℕ} {mid : ℕ} → named ≡ true → Wrote k m at mid (nameText first) → Wrote m o mid end (rowFrom (wordText (l .from) (l .to)) 1 (drop 1 ws)) → Wrote k o at end (wordsText named l first ws)
+  unfolding wordsText
+  value-named e u v = rw e (joined u v)
 
--- ---- the whole line
+  pub value-plain : named ≡ false → Wrote k o at end (rowFrom (wordText (l .from) (l .to)) 0 (drop 0 ws)) → Wrote k o at end (wordsText named l first ws)
+  unfolding wordsText
+  value-plain e v = rw e v
 
-module _ (job : StreamJob) (p w b : List ℕ) (n : ℕ) (tail : StreamTail) (set-is : w ≡ marked n) (h : tail ≡ tailOf (job .reader) b) where
-  pub line-ends : (index : StreamIndex) {k l m after : List ℕ} {e r : ℕ} → tail ≡ StreamTail.Index index → Said (replyOf job p w b index) k l after e → Wrote l m e r (0x0a ∷ []) → Said (answerOf job p b n) k m after r
-  unfolding answerOf
-  line-ends index t s u = rw (← h, t, ← set-is) record { written = joined (s .written) u; left-is = s .left-is }
+module _ (shown : Bool) (ws : List ℕ) {k m o : List ℕ} {at mid end : ℕ} where
+  pub lent-shown : shown ≡ true → Wrote k m at mid (0x20 ∷ 0x7c ∷ []) → Wrote m o mid end (numbers ws) → Wrote k o at end (cond shown (lentText ws) [])
+  unfolding lentText
+  lent-shown e u v = rw e (joined u v)
 
-  pub no-line : (k : List ℕ) → tail ≡ StreamTail.BadJob → Said (answerOf job p b n) k k w 0
-  unfolding answerOf
-  no-line k t = rw (← h, t, ← set-is) record { written = nothing k 0; left-is = refl }
+pub lent-hidden : (shown : Bool) (ws k : List ℕ) (at : ℕ) → shown ≡ false → Wrote k k at at (cond shown (lentText ws) [])
+lent-hidden shown ws k at e = rw e (nothing k at)
+
+-- ---- by the status
+
+-- no layout has more than 37 words
+few-lut : (first : ℕ) → lutLayout first .words ≤ 37
+unfolding lutLayout
+few-lut first =
+    each (λ (l : Layout). l .words ≤ 37) (eqb first _) _ _ (λ _. omega arith)
+    (λ _. each (λ (l : Layout). l .words ≤ 37) (eqb first _) _ _ (λ _. omega arith) (λ _. omega arith))
+
+few-string : (first : ℕ) → stringLayout first .words ≤ 37
+unfolding stringLayout
+few-string first =
+    each (λ (l : Layout). l .words ≤ 37) (eqb first _) _ _ (λ _. omega arith)
+    (λ _. each (λ (l : Layout). l .words ≤ 37) (eqb first _) _ _ (λ _. omega arith) (λ _. omega arith))
+
+pub few : (r first : ℕ) → layoutOf r first .words ≤ 37
+unfolding layoutOf
+few r first =
+    let P : Layout → Type 0 = λ l. l .words ≤ 37 in
+    each P (eqb r 1 || eqb r 11) _ _ (λ _. few-lut first)
+    (λ _. each P (eqb r 2 || eqb r 12) _ _ (λ _. omega arith)
+    (λ _. each P (eqb r 3) _ _ (λ _. few-string first)
+    (λ _. each P (eqb r 4) _ _ (λ _. omega arith)
+    (λ _. each P (eqb r 5) _ _ (λ _. omega arith)
+    (λ _. each P (eqb r 6) _ _ (λ _. omega arith)
+    (λ _. each P (eqb r 7) _ _ (λ _. omega arith)
+    (λ _. each P (eqb r 8) _ _ (λ _. omega arith)
+    (λ _. each P (eqb r 9) _ _ (λ _. omega arith)
+    (λ _. each P (eqb r 10) _ _ (λ _. omega arith) (λ _. omega arith))))))))))
+
+module _ (reader status : ℕ) (out : List ℕ) {k o : List ℕ} {end : ℕ} where
+  pub answer-value : {m : List ℕ} {mid : ℕ} (l : Layout) (named : Bool) → status ≡ 0 → l ≡ layoutOf reader (getD out 0 0) → named ≡ several reader → Wrote k m 0 mid valueWord → Wrote m o mid end (wordsText named l (getD out 0 0) (take (l .words) out)) → Wrote k o 0 end (exportedText (several reader) (layoutOf reader) record { status = status; words = out })
+  unfolding exportedText
+  answer-value l named e f g u v = rw (eq-eqb _ _ e, ← f, ← g) (joined u v)
+
+  pub answer-absent : status ≡ 100 → Wrote k o 0 end absentWord → Wrote k o 0 end (exportedText (several reader) (layoutOf reader) record { status = status; words = out })
+  unfolding exportedText
+  answer-absent e u = rw e u
+
+  pub answer-default : status ≡ 101 → Wrote k o 0 end defaultWord → Wrote k o 0 end (exportedText (several reader) (layoutOf reader) record { status = status; words = out })
+  unfolding exportedText
+  answer-default e u = rw e u
+
+  pub answer-refused : {m : List ℕ} {mid : ℕ} → (status ≡ 0 → ⊥) → (status ≡ 100 → ⊥) → (status ≡ 101 → ⊥) → Wrote k m 0 mid (0x72 ∷ 0x65 ∷ 0x66 ∷ 0x75 ∷ 0x73 ∷ 0x65 ∷ 0x64 ∷ []) → Wrote m o mid end (number 0x20 status) → Wrote k o 0 end (exportedText (several reader) (layoutOf reader) record { status = status; words = out })
+  unfolding exportedText refusedText
+  answer-refused n0 n100 n101 u v = simp (ne-eqb _ _ n0, ne-eqb _ _ n100, ne-eqb _ _ n101) (joined u v)

@@ -24,15 +24,14 @@ use Rattle.lut_view_meaning.specs.View.{gridFrom, entryFrom, entryOf}
 use Rattle.small_meaning.specs.Layout.{nineNumbers, signatureIn, dateBytes, measurement, conditions, firstXyz, codePoints}
 use Rattle.small_meaning.specs.Order.{foundOf, answerTo}
 use Rattle.small_meaning.specs.Small.{matrixOf, chadOf, windowOf, tripleOf}
-use Rattle.lines.specs.Text.{digitsOf, decimal, number, numeral, row, numerals, numbers}
-use Rattle.curve_line_text.specs.CurveLine.{recordText}
+use Rattle.lines.specs.Text.{digitsOf, decimal, number, numeral, rowFrom, numbers, wordText}
+use Rattle.export_lut.specs.Layout.{lutLayout, numbersIn}
+use Rattle.export_text.specs.Layout.{stringLayout}
 use Rattle.answers_jobs.specs.Stream.{tailOf}
 use Rattle.answers_meaning.specs.Cases.{All, Holds, printed, cases}
-use Rattle.answers_meaning.specs.Plain.{curveText, smallText, measured, viewed, plainOf}
-use Rattle.answers_meaning.specs.Reply.{markedFrom, entryAt, viewText, replyOf, answerOf}
-use Rattle.answers_meaning.specs.Texts.{rangeText, stateText, stringText, entryText, lentText}
-use Rattle.answers_meaning.specs.Words.{refusedText, mftWord, abmWord}
+use Rattle.answers_meaning.specs.Line.{markedFrom, entryTold, viewTold, toldOf, wordsAfter, layoutOf, lineOf}
+use Rattle.answers_meaning.specs.Text.{refusedText, nameText, wordsText, exportedText, lentText}
 
 pub claim : All cases
-unfolding All Holds printed curveText curveAnswer trcOf curveOf curvOf paraOf divides parameterCount sizeOf stepOf wordsOf aligned curveAt runAt recordsOf abmOf checkedOf recordedOf valueFrom colourTableOf runsChecked curvesOf matrixChecked ended present deviceChannels spaceChannels aCurves mCurves bCurves planOf recordsNeeded gridOf abmMatrix biasOf stringOf stringByType textOf unicodeOf descOf slottedOf mlucOf recordsIn recordsAsked recordsFrom recordAt even wordsIn keptOf byteOf unitOf windowOf tripleOf signatureIn dateBytes measurement conditions firstXyz codePoints measured viewed rangeText stateText stringText lentText mftWord abmWord bytesAt recordText answerOf replyOf markedFrom tailOf plainOf smallText viewText entryText entryAt refusedText numerals numbers row numeral number decimal digitsOf foundOf answerTo chadOf matrixOf nineNumbers lutOf byType isMft isWide mftOf numbersOf badNumbers badEntries badChannels outside tablesOf fieldsOf mftAnswer entrySize tablesStart entriesAt colourTable product entryOf entryFrom gridFrom inGrid pointOf wordsAt signatureOf
+unfolding All Holds printed curveAnswer trcOf curveOf curvOf paraOf divides parameterCount sizeOf stepOf wordsOf aligned curveAt runAt recordsOf abmOf checkedOf recordedOf valueFrom colourTableOf runsChecked curvesOf matrixChecked ended present deviceChannels spaceChannels aCurves mCurves bCurves planOf recordsNeeded gridOf abmMatrix biasOf stringOf stringByType textOf unicodeOf descOf slottedOf mlucOf recordsIn recordsAsked recordsFrom recordAt even wordsIn keptOf byteOf unitOf windowOf tripleOf signatureIn dateBytes measurement conditions firstXyz codePoints lentText lineOf toldOf wordsAfter layoutOf entryTold viewTold nameText wordsText exportedText lutLayout numbersIn stringLayout rowFrom wordText bytesAt markedFrom tailOf refusedText numbers numeral number decimal digitsOf foundOf answerTo chadOf matrixOf nineNumbers lutOf byType isMft isWide mftOf numbersOf badNumbers badEntries badChannels outside tablesOf fieldsOf mftAnswer entrySize tablesStart entriesAt colourTable product entryOf entryFrom gridFrom inGrid pointOf wordsAt signatureOf
 claim = (refl, (refl, (refl, (refl, (refl, (refl, (refl, (refl, (refl, (refl, (refl, (refl, (refl, (refl, (refl, (refl, (refl, (refl, (refl, (refl, (refl, (refl, tt))))))))))))))))))))))

@@ -4,7 +4,7 @@ use Prim.Native.Nat.{ℕ, zero, suc, _+_, _≤_, _<_}
 use native.Mathlib.Omega.{arith}
 use mathlib.Core.Path.{_≡_, refl, ap, _∙_}
 use lib.ListN.{length, getD}
-use Rattle.answers_meaning.specs.Reply.{markAt, markedFrom, marked}
+use Rattle.answers_meaning.specs.Line.{markAt, markedFrom, marked}
 
 pub marks-length : (i n : ℕ) → length (markedFrom i n) ≡ n
 unfolding markedFrom

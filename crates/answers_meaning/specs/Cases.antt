@@ -12,14 +12,14 @@ use Rattle.text_meaning.specs.Cases.{five, recordOf}
 use Rattle.small_meaning.specs.Cases.{profileOf, dtim, xyz, cicp}
 use Rattle.answers_jobs.specs.declared.StreamJob.{StreamJob}
 use Rattle.lines.specs.Text.{numeral}
-use Rattle.answers_meaning.specs.Reply.{answerOf}
+use Rattle.answers_meaning.specs.Line.{lineOf}
 
 pub data Case : Type 0 where
   -- the number of a reader, a profile whose tag at offset 0 has this size, the bytes behind it, and the line
   says : ℕ → List ℕ → ℕ → List ℕ → List ℕ → Case
   -- the number of a reader, a profile, offset and size of its tag, and the letters and the numbers of the line
   prints : ℕ → List ℕ → ℕ → ℕ → List ℕ → List ℤ → Case
-  -- of a reader that is lent so many words: profile and size, letters and numbers, and the words as they are left
+  -- of a reader that is lent so many words: profile and size, letters and numbers, and the words after the call
   leaves : ℕ → List ℕ → ℕ → ℕ → List ℕ → List ℤ → List ℕ → Case
 
 -- a job under the house defaults
@@ -33,12 +33,12 @@ printed [] = []
 printed (z ∷ zs) = numeral 0x20 z ++ printed zs
 
 unfoldable pub Holds : Case → Type 0
-Holds (says reader profile size behind line) = answerOf (jobFor reader profile 0 size 0) profile behind 0 .text ≡ line
+Holds (says reader profile size behind line) = lineOf (jobFor reader profile 0 size 0) profile behind 0 .text ≡ line
 Holds (prints reader profile offset size letters zs) =
-    answerOf (jobFor reader profile offset size 0) profile [] 0 ≡ record { text = letters ++ printed zs ++ (0x0a ∷ []); left = [] }
-Holds (leaves reader profile size n letters zs left) =
-    answerOf (jobFor reader profile 0 size n) profile [] n
-    ≡ record { text = letters ++ printed zs ++ (0x20 ∷ 0x7c ∷ printed (map pos left)) ++ (0x0a ∷ []); left = left }
+    lineOf (jobFor reader profile offset size 0) profile [] 0 ≡ record { text = letters ++ printed zs ++ (0x0a ∷ []); wordsAfter = [] }
+Holds (leaves reader profile size n letters zs after) =
+    lineOf (jobFor reader profile 0 size n) profile [] n
+    ≡ record { text = letters ++ printed zs ++ (0x20 ∷ 0x7c ∷ printed (map pos after)) ++ (0x0a ∷ []); wordsAfter = after }
 
 unfoldable pub All : List Case → Type 0
 All [] = Unit

@@ -1,5 +1,3 @@
-pub mod Words
-pub mod Plain
-pub mod Texts
-pub mod Reply
+pub mod Text
+pub mod Line
 pub mod Cases

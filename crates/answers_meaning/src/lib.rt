@@ -1,2 +1,2 @@
-// No function: what the lines of the program `answers` say, and what is left of the words lent. The code that makes the lines is in the crates
-// `plain_replies` and `replies`.
+// No function: what the lines of the program `answers` say, and the lent words after a call. The code that makes the lines is in the crate
+// `answers_lines`.

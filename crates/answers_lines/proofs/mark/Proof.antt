@@ -6,7 +6,7 @@ use native.Mathlib.Omega.{arith}
 use mathlib.Core.Path.{_≡_, refl}
 use lib.ListN.{length, drop, length-set}
 use lib.Seq.{sets}
-use Rattle.answers_meaning.specs.Reply.{marked}
+use Rattle.answers_meaning.specs.Line.{marked}
 use Rattle.answers_lines.proofs.Laws.{mark-begins, mark-turns, mark-ends}
 use Rattle.answers_lines.proofs.mark.Statement.{statement}
 use Rattle.answers_lines.proofs.mark.Tie as tie
