@@ -3,9 +3,9 @@
 use answers_jobs::StreamIndex;
 use answers_jobs::StreamJob;
 use answers_jobs::StreamTail;
-use export_words::Layout;
 use export_words::ABSENT;
 use export_words::DEFAULT;
+use export_words::Layout;
 use export_words::VALUE;
 use fields::Entry;
 use fields::InTag;
@@ -181,7 +181,14 @@ fn put_name(line: &mut [u8], at: usize, signature: u64) -> usize
 }
 
 // Puts the words of a value, the type's name for the first where the reader serves several.
-fn put_value(line: &mut [u8], at: usize, named: bool, layout: Layout, first: u64, words: &[u64]) -> usize
+fn put_value(
+    line: &mut [u8],
+    at: usize,
+    named: bool,
+    layout: Layout,
+    first: u64,
+    words: &[u64],
+) -> usize
     ensures { λ r. ⌜ Wrote (now (line .entry)) (now (line .exit)) at r (wordsText named layout first (now (words .entry))) ⌝ }
 {
     if named {

@@ -2,8 +2,8 @@
 use curve_meaning::CurveAnswer;
 use curve_meaning::CurveRecord;
 use curve_meaning::Walk;
-use export_words::Layout;
 use export_words::ABSENT;
+use export_words::Layout;
 use export_words::VALUE;
 ghost use mathlib.Core.Path.{_≡_};
 ghost use mathlib.Core.List.{[], _∷_, _++_};

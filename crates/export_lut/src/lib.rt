@@ -1,6 +1,6 @@
 // What is told of a lookup table, and of an entry of a colour table.
-use export_words::Layout;
 use export_words::ABSENT;
+use export_words::Layout;
 use export_words::VALUE;
 use fields::InTag;
 use fields::Kind;

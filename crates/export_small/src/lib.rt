@@ -1,7 +1,7 @@
 // What is told of the small readers' answers: a status, and the words of a value.
-use export_words::Layout;
 use export_words::ABSENT;
 use export_words::DEFAULT;
+use export_words::Layout;
 use export_words::VALUE;
 use small_meaning::ChadAnswer;
 use small_meaning::CicpAnswer;

@@ -1,6 +1,6 @@
 // What is told of the answer of the reader of text.
-use export_words::Layout;
 use export_words::ABSENT;
+use export_words::Layout;
 use export_words::VALUE;
 use fields::Kind;
 use text_meaning::Description;
