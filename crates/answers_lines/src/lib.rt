@@ -10,7 +10,7 @@ use export_words::VALUE;
 use fields::Entry;
 use fields::InTag;
 use fields::Place;
-ghost use Prim.Native.Nat.{_%_};
+ghost use Prim.Native.Nat.{_%_, _≤_};
 ghost use mathlib.Core.Path.{_≡_};
 ghost use mathlib.Core.Bool.{cond};
 ghost use mathlib.Core.List.{[]};
@@ -119,7 +119,8 @@ fn ask(
         10 => exports::khalyksor_read_cicp_tag(profile, offset, size, out),
         11 => exports::khalyksor_read_lut_tag(profile, offset, size, limit, points, 1, words, out),
         12 => exports::khalyksor_read_trc_tag(profile, offset, size, limit, 1, out),
-        _ => view(profile, job, behind, index, words, out),
+        13 => view(profile, job, behind, index, words, out),
+        _ => ABSENT,
     }
 }
 
@@ -148,7 +149,12 @@ fn layout_of(reader: u8, first: u64) -> Layout
 fn several(reader: u8) -> bool
     ensures { λ r. ⌜ r ≡ Line·several reader ⌝ }
 {
-    reader == 1 || reader == 3 || reader == 11
+    match reader {
+        1 => true,
+        3 => true,
+        11 => true,
+        _ => false,
+    }
 }
 
 fn low_byte(word: u64) -> u8
@@ -193,7 +199,8 @@ fn put_value(
 }
 
 // Puts what was told, at the start of the line.
-fn put_answer(line: &mut [u8], reader: u8, status: u32, out: &[u64; 37]) -> usize
+fn put_answer(line: &mut [u8], reader: u8, status: u32, out: &[u64]) -> usize
+    requires { ⌜ length (now out) ≡ 37 ⌝ }
     ensures { λ r. ⌜ Wrote (now (line .entry)) (now (line .exit)) 0 r (exportedText (Line·several reader) (layoutOf reader) record { status = status; words = now (out .entry) }) ⌝ }
 {
     if status == VALUE {

@@ -72,7 +72,7 @@ module _ (job : StreamJob) (profile words : List ℕ) where
       cond (eqb r 10) (smallExported (cicpOf profile (job .offset) (job .size))) (
       cond (eqb r 11) (lutTold Book) (
       cond (eqb r 12) (curveTold Book) (
-      viewTold (lutTold Crate) (tagOf profile (job .offset) (job .size)) behind index))))))))))))
+      cond (eqb r 13) (viewTold (lutTold Crate) (tagOf profile (job .offset) (job .size)) behind index) absent))))))))))))
 
   -- the lent words after the call: the readers of lookup tables and of text write there
   unfoldable pub wordsAfter : List ℕ
