@@ -1,31 +1,42 @@
 -- The pieces of a line make the whole, and each way out is a law of what is told.
 -- Assumes nothing.
-use Prim.Native.Nat.{ℕ, _+_, _/_, _%_, _≤_, _<_}
+use Prim.Native.Nat.{ℕ, zero, suc, _+_, _-_, _/_, _%_, _≤_, _<_}
 use native.Mathlib.Omega.{arith}
 use mathlib.Core.Path.{_≡_, refl, sym, ap, _∙_}
 use mathlib.Core.Bool.{Bool, true, false, cond, _||_}
-use mathlib.Core.List.{List, [], _∷_}
-use lib.ListN.{length, getD, take, drop, set}
-use lib.Seq.{sets}
-use lib.Dec.{eqb}
-use borrow.Author.Tests.{eq-eqb, ne-eqb}
+use mathlib.Core.List.{List, [], _∷_, _++_}
+use lib.ListN.{length, getD, take, drop, set, replicate}
+use lib.Seq.{sets, length-sets, take-append-le}
+use lib.Dec.{ltb, eqb}
+use borrow.Author.Tests.{lt-ltb, ltb-false, eqb-true, eq-eqb, ne-eqb}
 use Rattle.fields.proofs.Choice.{each}
-use Rattle.fields.proofs.Stores.{fill-begins, fill-turns, fill-ends}
+use Rattle.fields.specs.Place.{placeOf, countedSize}
+use Rattle.fields.specs.declared.Place.{Place}
+use Rattle.fields.specs.declared.Place.the-variants.{In, Past}
+use Rattle.fields.proofs.Located.{past, part-is}
+use Rattle.fields.proofs.Never.{never}
+use Rattle.lut_meaning.specs.Lut.{tagOf, lutOf}
+use Rattle.lut_view_meaning.specs.View.{tableBy, entryOf}
+use Rattle.lut_view_meaning.specs.declared.TableNumbers.{TableNumbers}
+use Rattle.answers_jobs.specs.Stream.{tailOf}
+use Rattle.answers_jobs.specs.declared.StreamTail.{StreamTail}
+use Rattle.answers_lines.specs.View.{ViewAndWords}
+use Rattle.fields.proofs.Stores.{front, fill-begins, fill-turns, fill-ends}
 use Rattle.lines.specs.Text.{Wrote, number, numbers, rowFrom, wordText}
 use Rattle.lines.proofs.Writing.{joined, nothing}
 use Rattle.curve_meaning.specs.declared.Walk.the-variants.{Crate, Book}
 use Rattle.small_meaning.specs.Small.{chadOf, sigOf, dateOf, measOf, viewOf, xyzOf, cicpOf}
 use Rattle.text_meaning.specs.Text.{stringOf, slotsAfter as Text·slotsAfter}
-use Rattle.export_words.specs.Exported.{always, within, Gave, GaveWith}
+use Rattle.export_words.specs.Exported.{Exported, always, within, Gave, GaveWith}
 use Rattle.export_words.specs.declared.Layout.{Layout}
-use Rattle.export_words.proofs.Telling.{no-words, was-told, was-told-slots}
+use Rattle.export_words.proofs.Telling.{in-front, no-words, was-told, was-told-slots}
 use Rattle.export_curve.specs.Layout.{curveLayout}
-use Rattle.export_lut.specs.Layout.{lutLayout, abmLayout}
+use Rattle.export_lut.specs.Layout.{lutLayout, abmLayout, entryExported, entryLayout, numbersIn}
 use Rattle.export_small.specs.Layout.{smallExported, chadLayout, sigLayout, dateLayout, measLayout, viewLayout, xyzLayout, cicpLayout}
 use Rattle.export_text.specs.Layout.{textExported, stringLayout, descLayout}
 use Rattle.answers_jobs.specs.declared.StreamIndex.{StreamIndex}
 use Rattle.answers_jobs.specs.declared.StreamJob.{StreamJob}
-use Rattle.answers_meaning.specs.Line.{markAt, marked, lutTold, lutWordsAfter, curveTold, toldOf, wordsAfter, layoutOf, several, ToldAndWords}
+use Rattle.answers_meaning.specs.Line.{markAt, marked, entryTold, viewTold, lutTold, lutWordsAfter, curveTold, toldOf, wordsAfter, layoutOf, several, lineOf, ToldAndWords, LineAndWords}
 use Rattle.answers_meaning.specs.Text.{valueWord, absentWord, defaultWord, nameText, wordsText, exportedText, refusedText, lentText}
 use Rattle.answers_meaning.proofs.Marks.{marks-length, mark-is}
 
@@ -160,6 +171,11 @@ few r first =
     (λ _. each P (eqb r 9) _ _ (λ _. omega arith)
     (λ _. each P (eqb r 10) _ _ (λ _. omega arith) (λ _. omega arith))))))))))
 
+pub few-out : (reader first : ℕ) (l : Layout) (out : List ℕ) → l ≡ layoutOf reader first → length out ≡ 37 → l .words ≤ length out
+few-out reader first l out e h =
+    let same : l .words ≡ layoutOf reader first .words = ap (λ (x : Layout). x .words) e in
+    omega (arith, same, h, few reader first)
+
 module _ (reader status : ℕ) (out : List ℕ) {k o : List ℕ} {end : ℕ} where
   pub answer-value : {m : List ℕ} {mid : ℕ} (l : Layout) (named : Bool) → status ≡ 0 → l ≡ layoutOf reader (getD out 0 0) → named ≡ several reader → Wrote k m 0 mid valueWord → Wrote m o mid end (wordsText named l (getD out 0 0) (take (l .words) out)) → Wrote k o 0 end (exportedText (several reader) (layoutOf reader) record { status = status; words = out })
   unfolding exportedText
@@ -176,3 +192,134 @@ module _ (reader status : ℕ) (out : List ℕ) {k o : List ℕ} {end : ℕ} whe
   pub answer-refused : {m : List ℕ} {mid : ℕ} → (status ≡ 0 → ⊥) → (status ≡ 100 → ⊥) → (status ≡ 101 → ⊥) → Wrote k m 0 mid (0x72 ∷ 0x65 ∷ 0x66 ∷ 0x75 ∷ 0x73 ∷ 0x65 ∷ 0x64 ∷ []) → Wrote m o mid end (number 0x20 status) → Wrote k o 0 end (exportedText (several reader) (layoutOf reader) record { status = status; words = out })
   unfolding exportedText refusedText
   answer-refused n0 n100 n101 u v = simp (ne-eqb _ _ n0, ne-eqb _ _ n100, ne-eqb _ _ n101) (joined u v)
+
+-- ---- the table view
+
+no-word : (m j : ℕ) → _≡_ {A = ℕ} (getD (replicate m 0) j 0) 0
+no-word zero j = refl
+no-word (suc m) zero = refl
+no-word (suc m) (suc j) = no-word m j
+
+none-behind : (n m j : ℕ) → _≡_ {A = ℕ} (getD (drop n (replicate m 0)) j 0) 0
+none-behind zero m j = no-word m j
+none-behind (suc n) zero j = refl
+none-behind (suc n) (suc m) j = none-behind n m j
+
+word-in-front : (ws zs : List ℕ) (i : ℕ) → ((j : ℕ) → getD zs j 0 ≡ 0) → getD (ws ++ zs) i 0 ≡ getD ws i 0
+word-in-front [] zs i z = z i
+word-in-front (x ∷ ws) zs zero z = refl
+word-in-front (x ∷ ws) zs (suc i) z = word-in-front ws zs i z
+
+-- words in front of zeros are read as they are
+pub filled : (ws : List ℕ) → length ws ≤ 37 → (i : ℕ) → getD (sets (replicate 37 0) 0 ws) i 0 ≡ getD ws i 0
+filled ws h i = rw (← front (replicate 37 0) ws (length ws) refl h) (word-in-front ws (drop (length ws) (replicate 37 0)) i (none-behind (length ws) 37))
+
+same-numbers : (a b : List ℕ) → ((i : ℕ) → getD a i 0 ≡ getD b i 0) → numbersIn a ≡ numbersIn b
+unfolding numbersIn
+same-numbers a b h = rw (h 0, h 1, h 2, h 17, h 31, h 33)
+
+same-entry : (a b t behind : List ℕ) (index : StreamIndex) → numbersIn a ≡ numbersIn b → entryTold a t behind index ≡ entryTold b t behind index
+unfolding entryTold
+same-entry a b t behind (StreamIndex.At n channel) e = rw e
+same-entry a b t behind StreamIndex.TooMany e = refl
+same-entry a b t behind StreamIndex.Nothing e = refl
+
+-- a job's coordinates are there
+pub tail-room : (reader : ℕ) (b : List ℕ) (index : StreamIndex) (n channel : ℕ) → tailOf reader b ≡ StreamTail.Index index → index ≡ StreamIndex.At n channel → 1 + n ≤ length b
+unfolding tailOf
+tail-room reader b index n channel t f =
+    each P (ltb reader 1) _ _ (λ _ e. never cc)
+    (λ _. each P (ltb 13 reader) _ _ (λ _ e. never cc)
+    (λ _. each P (ltb reader 13) _ _ (λ _ e. never cc)
+    (λ _. each P (ltb (length b) 18) _ _ (λ _ e. never cc)
+    (λ long. each P (ltb 16 (getD b 0 0)) _ _ (λ _ e. never cc)
+    (λ few e. let q : getD b 0 0 ≡ n = cc in omega (arith, ltb-false (length b) 18 long, ltb-false 16 (getD b 0 0) few)))))) (t ∙ ap StreamTail.Index f)
+  where
+    P : StreamTail → Type 0
+    P x = x ≡ StreamTail.Index (StreamIndex.At n channel) → 1 + n ≤ length b
+
+-- the entry by the numbers that the words tell
+pub entry-at : (t b ws : List ℕ) (index : StreamIndex) (n channel : ℕ) (v : TableNumbers) {r : ℕ} {out out' : List ℕ} → length out ≡ 37 → index ≡ StreamIndex.At n channel → v ≡ numbersIn ws → Gave (always entryLayout) (within (entryLayout .words) out (entryExported (entryOf t (tableBy t v) (take ((1 + n) - 1) (drop 1 b)) channel))) r out out' → Gave (always entryLayout) (entryTold ws t b index) r out out'
+unfolding entryTold
+entry-at t b ws index n channel v h e f g = rw (e, ← f, ← part-is b 1 n) (was-told 1 (omega arith) g)
+
+pub entry-none : (t b ws out : List ℕ) (index : StreamIndex) → index ≡ StreamIndex.Nothing → Gave (always entryLayout) (entryTold ws t b index) 100 out out
+unfolding entryTold
+entry-none t b ws out index e = rw e (no-words 100 100 out refl (λ z. omega arith))
+
+pub entry-many : (t b ws out : List ℕ) (index : StreamIndex) → index ≡ StreamIndex.TooMany → Gave (always entryLayout) (entryTold ws t b index) 100 out out
+unfolding entryTold
+entry-many t b ws out index e = rw e (no-words 100 100 out refl (λ z. omega arith))
+
+module _ (job : StreamJob) (p w b : List ℕ) (index : StreamIndex) {r : ℕ} {table w' : List ℕ} (g : GaveWith lutLayout (abmLayout .words) (lutTold job p w Crate) (lutWordsAfter job p w Crate) r (replicate 37 0) table w w') where
+  told : Gave lutLayout (lutTold job p w Crate) r (replicate 37 0) table
+  told = was-told 37 (omega arith) (g .gave)
+
+  -- no value: its status
+  pub view-status : (out : List ℕ) → (r ≡ 0 → ⊥) → ViewAndWords job p w b index r out out w'
+  unfolding viewTold
+  view-status out n =
+      record { gave = rw (← told .status-is, ne-eqb _ _ n) (no-words r r out refl n); words-are = was-told-slots 37 (omega arith) g }
+
+  -- a value is of a tag in the profile
+  pub view-lost : (place : Place) (end : ℕ) (out : List ℕ) → end ≡ countedSize (job .size) → place ≡ placeOf (length p) (job .offset) end → place ≡ Past → r ≡ 0 → ViewAndWords job p w b index 100 out out w'
+  unfolding lutOf
+  view-lost place end out c h e z =
+      let k : lutTold job p w Crate .status ≡ 1 = rw (← c, lt-ltb _ _ (past _ _ _ h e)) in
+      absurd (omega (arith, told .status-is, z, k))
+
+  -- and then the entry
+  pub view-entry : {s : ℕ} {out out' t : List ℕ} → r ≡ 0 → t ≡ tagOf p (job .offset) (job .size) → Gave (always entryLayout) (entryTold table t b index) s out out' → ViewAndWords job p w b index s out out' w'
+  unfolding viewTold
+  view-entry {s} {out} {out'} {t} z e h =
+      let ws : List ℕ = lutTold job p w Crate .words in
+      let status : lutTold job p w Crate .status ≡ 0 = sym (told .status-is) ∙ z in
+      let most : length ws ≤ 37 = omega (arith, told .as-laid-out status, few-lut (getD ws 0 0)) in
+      let numbers : numbersIn table ≡ numbersIn ws = rw (told .out-is) (same-numbers _ ws (filled ws most)) in
+      record { gave = rw (eq-eqb _ _ status, ← e, ← same-entry table ws t b index numbers) h; words-are = was-told-slots 37 (omega arith) g }
+
+pub asked-13 : (job : StreamJob) (p w b : List ℕ) (index : StreamIndex) {r : ℕ} {out out' words' : List ℕ} → job .reader ≡ 13 → ViewAndWords job p w b index r out out' words' → ToldAndWords job p w b index r out out' words'
+unfolding toldOf layoutOf wordsAfter
+asked-13 job p w b index e v = record { gave = rw e (v .gave); words-are = rw e (v .words-are) }
+
+-- ---- a line
+
+-- what stands in a row of zeros is printed as what was told
+same-text : (reader : ℕ) (e : Exported) (r : ℕ) (out : List ℕ) → Gave (layoutOf reader) e r (replicate 37 0) out → exportedText (several reader) (layoutOf reader) record { status = r; words = out } ≡ exportedText (several reader) (layoutOf reader) e
+unfolding exportedText
+same-text reader e r out g = by (eqb (e .status) 0) refl
+  where
+    ws : List ℕ
+    ws = e .words
+
+    by : (b : Bool) → eqb (e .status) 0 ≡ b → exportedText (several reader) (layoutOf reader) record { status = r; words = out } ≡ exportedText (several reader) (layoutOf reader) e
+    by true z =
+        let laid : length ws ≡ layoutOf reader (getD ws 0 0) .words = g .as-laid-out (eqb-true _ _ z) in
+        let most : length ws ≤ 37 = omega (arith, laid, few reader (getD ws 0 0)) in
+        let first : getD out 0 0 ≡ getD ws 0 0 = rw (g .out-is) (filled ws most 0) in
+        let cut : take (length ws) out ≡ take (length ws) ws = rw (in-front most g) (take-append-le (length ws) ws _ (omega arith)) in
+        rw (g .status-is, first, ← laid, cut)
+    by false z = rw (g .status-is, z)
+
+-- the row keeps its length
+pub told-length : {job : StreamJob} {p w b : List ℕ} {index : StreamIndex} {r : ℕ} {out w' : List ℕ} → ToldAndWords job p w b index r (replicate 37 0) out w' → length out ≡ 37
+told-length {job} {p} {w} {b} {index} a =
+    let zeros : List ℕ = replicate 37 0 in
+    ap length (a .gave .out-is) ∙ length-sets zeros 0 (toldOf job p w b index .words)
+
+module _ (job : StreamJob) (p b : List ℕ) (n : ℕ) {w : List ℕ} {tail : StreamTail} (m : w ≡ marked n) (t : tail ≡ tailOf (job .reader) b) where
+  pub asks : {index : StreamIndex} → tail ≡ StreamTail.Index index → tailOf (job .reader) b ≡ StreamTail.Index index
+  asks e = sym t ∙ e
+
+  pub no-line : (k : List ℕ) → tail ≡ StreamTail.BadJob → LineAndWords (lineOf job p b n) k k w 0
+  unfolding lineOf
+  no-line k e = record { written = rw (← t, e) (nothing k 0); words-are = rw (← t, e) m }
+
+  pub line-ends : {index : StreamIndex} {r : ℕ} {out w' k l o q : List ℕ} {i j end : ℕ} {shown : Bool} → tail ≡ StreamTail.Index index → ToldAndWords job p w b index r (replicate 37 0) out w' → shown ≡ several (job .reader) → Wrote k l 0 i (exportedText (several (job .reader)) (layoutOf (job .reader)) record { status = r; words = out }) → Wrote l o i j (cond shown (lentText w') []) → Wrote o q j end (0x0a ∷ []) → LineAndWords (lineOf job p b n) k q w' end
+  unfolding lineOf
+  line-ends {index} {r} {out} e a s u v x =
+      let told = same-text (job .reader) (toldOf job p w b index) r out (a .gave) in
+      record {
+        written = rw (← t, e, ← m, ← told, ← a .words-are) (joined (joined u (rw s at v)) x);
+        words-are = rw (← t, e, ← m) (a .words-are);
+      }

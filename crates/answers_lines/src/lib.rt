@@ -17,8 +17,11 @@ ghost use mathlib.Core.List.{[]};
 ghost use lib.ListN.{length};
 ghost use Rattle.answers_jobs.specs.Stream.{tailOf};
 ghost use Rattle.lines.specs.Text.{Wrote};
-ghost use Rattle.answers_meaning.specs.Line.{marked, layoutOf, several as Line·several, lineOf, ToldAndWords, LineAndWords};
+ghost use Rattle.export_words.specs.Exported.{always, Gave};
+ghost use Rattle.export_lut.specs.Layout.{entryLayout};
+ghost use Rattle.answers_meaning.specs.Line.{marked, entryTold, layoutOf, several as Line·several, lineOf, ToldAndWords, LineAndWords};
 ghost use Rattle.answers_meaning.specs.Text.{nameText, wordsText, exportedText, lentText};
+ghost use Rattle.answers_lines.specs.View.{ViewAndWords};
 
 // Sets the words lent: word i to 0xA5A50000 + i.
 fn mark(words: &mut [u32])
@@ -31,8 +34,46 @@ fn mark(words: &mut [u32])
     }
 }
 
-// Reader 13: the table is read on the crate walk, and then the entry, by the numbers that the table's words tell. The words lent are those of
-// the table's reader.
+// The entry at a grid index of the lookup table whose words these are; an index of more than sixteen coordinates is nowhere.
+fn entry(
+    tag: &[u8],
+    table: &[u64; 37],
+    reader: u8,
+    behind: &[u8],
+    index: StreamIndex,
+    out: &mut [u64; 37],
+) -> u32
+    requires { ⌜ tailOf reader (now behind) ≡ StreamTail.Index index ⌝ }
+    ensures { λ r. ⌜ Gave (always entryLayout) (entryTold (now (table .entry)) (now (tag .entry)) (now (behind .entry)) index) r (now (out .entry)) (now (out .exit)) ⌝ }
+{
+    match index {
+        StreamIndex::At {
+            coordinates,
+            channel,
+        } => {
+            let end = 1 + coordinates as usize;
+            let numbers = export_lut::numbers_in(table);
+            let start = numbers.start;
+            let grid_at = numbers.grid_at;
+            exports::khalyksor_entry_at(
+                tag,
+                start.0,
+                numbers.entry_size,
+                numbers.inputs,
+                numbers.outputs,
+                grid_at.0,
+                numbers.grid_step,
+                &behind[1..end],
+                channel,
+                out,
+            )
+        }
+        StreamIndex::TooMany => ABSENT,
+        StreamIndex::Nothing => ABSENT,
+    }
+}
+
+// The lookup table is read on the crate walk, and then the entry. The words lent are those of the table's reader.
 fn view(
     profile: &[u8],
     job: StreamJob,
@@ -42,8 +83,7 @@ fn view(
     out: &mut [u64; 37],
 ) -> u32
     requires { ⌜ tailOf (job .reader) (now behind) ≡ StreamTail.Index index ⌝ }
-    requires { ⌜ job .reader ≡ 13 ⌝ }
-    ensures { λ r. ⌜ ToldAndWords job (now (profile .entry)) (now (words .entry)) (now (behind .entry)) index r (now (out .entry)) (now (out .exit)) (now (words .exit)) ⌝ }
+    ensures { λ r. ⌜ ViewAndWords job (now (profile .entry)) (now (words .entry)) (now (behind .entry)) index r (now (out .entry)) (now (out .exit)) (now (words .exit)) ⌝ }
 {
     let mut table = [0u64; 37];
     let status = exports::khalyksor_read_lut_tag(
@@ -59,34 +99,12 @@ fn view(
     if status != VALUE {
         return status;
     }
-    let StreamIndex::At {
-        coordinates,
-        channel,
-    } = index
-    else {
-        return ABSENT;
-    };
     let size = fields::counted_size(job.size);
     let place = fields::locate(profile, Entry(job.offset), InTag(size as u64));
     let Place::In { from, to } = place else {
         return ABSENT;
     };
-    let end = 1 + coordinates as usize;
-    let numbers = export_lut::numbers_in(&table);
-    let start = numbers.start;
-    let grid_at = numbers.grid_at;
-    exports::khalyksor_entry_at(
-        &profile[from..to],
-        start.0,
-        numbers.entry_size,
-        numbers.inputs,
-        numbers.outputs,
-        grid_at.0,
-        numbers.grid_step,
-        &behind[1..end],
-        channel,
-        out,
-    )
+    entry(&profile[from..to], &table, job.reader, behind, index, out)
 }
 
 // Asks the exported function of the reader that the job names.
