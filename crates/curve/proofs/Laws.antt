@@ -1,18 +1,17 @@
 -- The meanings case by case, as the code meets them: each law takes what the tests and the calls on the way told, and gives the answer.
 -- A function's proof cites them by name alone, `search (needs, table-laws)`.
 -- Assumes nothing.
-use Prim.Native.Nat.{ℕ, _+_, _-_, _*_, _≤_, _<_}
+use Prim.Native.Nat.{ℕ, _+_, _-_, _*_, _^_, _≤_, _<_}
 use native.Mathlib.Omega.{arith}
-use mathlib.Core.Path.{_≡_, refl, sym, _∙_, ap}
+use mathlib.Core.Path.{_≡_, refl, sym, _∙_, ap, subst}
 use mathlib.Core.Bool.{Bool, true, false, cond, _&&_}
 use mathlib.Core.List.{List, [], _∷_}
 use lib.Dec.{ltb, leb, eqb}
 use lib.ListN.{length, getD, take, drop}
 use lib.Seq.{sets}
-use borrow.Author.Tests.{eq-eqb, ne-eqb, lt-ltb, le-ltb, le-leb, lt-leb, eqb-true}
+use borrow.Author.Tests.{eq-eqb, ne-eqb, lt-ltb, le-ltb, le-leb, lt-leb, ltb-false, eqb-true}
 use Rattle.fields.specs.Checked.{Checked, good, bad}
-use Rattle.fields.specs.Bytes.{u32At}
-use Rattle.fields.specs.House.{tagSize}
+use Rattle.fields.specs.Bytes.{u32At, wordsAt}
 use Rattle.fields.specs.Place.{placeOf}
 use Rattle.fields.specs.Refusals.{refusalNumber}
 use Rattle.fields.specs.Tag.{signatureOf}
@@ -20,18 +19,18 @@ use Rattle.fields.specs.declared.Kind.the-variants.{Curv, Para}
 use Rattle.fields.specs.declared.Place.{Place}
 use Rattle.fields.specs.declared.Place.the-variants.{In, Past}
 use Rattle.fields.specs.declared.Refusal.{Refusal}
-use Rattle.fields.specs.declared.Refusal.the-variants.{TooFewSlots}
+use Rattle.fields.specs.declared.Refusal.the-variants.{CurveRunsOut, OtherCurve, TooFewSlots}
+use Rattle.fields.proofs.Choice.{each}
 use Rattle.fields.proofs.Located.{inside, past, rest-is, part-is}
 use Rattle.fields.proofs.Words.{word-at, word-past}
 use Rattle.curve_meaning.specs.Answer.{Answer, value, absent, refused, words, answerOf, stepChecked, slotWith, inSlot, StepAndSlot}
 use Rattle.curve_meaning.specs.Curve.{trcOf, curveOf, curvOf, paraOf, divides}
-use Rattle.curve_meaning.specs.Layout.{dataStart, entryCount, entriesEnd, functionType, parameterCount, parametersEnd, parametersAt}
-use Rattle.curve_meaning.specs.Shape.{Shape, tableShape, emptyStep, stepOf, sizeOf, recordWords, recordOf, emptyKind, tableKind, paraKind, wordsOf}
+use Rattle.curve_meaning.specs.Layout.{entryCount, functionType, parameterCount, parameters}
+use Rattle.curve_meaning.specs.Shape.{Shape, empty, table, para, tableShape, emptyStep, stepOf, sizeOf, recordWords, recordOf, wordsOf}
 use Rattle.curve_meaning.specs.declared.CurveRecord.{CurveRecord}
 use Rattle.curve_meaning.specs.declared.Step.{Step}
 use Rattle.curve_meaning.specs.declared.Walk.{Walk}
-use Rattle.curve_meaning.proofs.Laid.{ParametricCurveType, Laid, laid}
-use Rattle.curve.specs.Found.{paraIn, foundIn}
+use Rattle.curve.specs.Found.{tableFrom, paraFrom}
 use Rattle.curve.specs.declared.Found.{Found}
 
 -- ---- what is made of what is seen: an answer, a step, a slot
@@ -61,11 +60,6 @@ module _ (walk : Walk) (start : ℕ) {x : Checked Shape} where
   unfolding slotWith
   keeping why e slot = record { step-is = stopping e; slot-is = rw (← e) }
 
--- in a slot with room for a record
-in-slot : (slot : List ℕ) → recordWords ≤ length slot → {x y : Checked Shape} → x ≡ y → x ≡ inSlot slot y
-unfolding inSlot
-in-slot slot l e = rw (le-ltb _ _ l) e
-
 -- ---- `curv`
 
 module _ (limit : ℕ) (t : List ℕ) (n : ℕ) (h : n ≡ entryCount t) where
@@ -77,11 +71,11 @@ module _ (limit : ℕ) (t : List ℕ) (n : ℕ) (h : n ≡ entryCount t) where
   unfolding curvOf
   table-over z l = simp (← h, ne-eqb _ _ z, lt-ltb _ _ l)
 
-  pub table-short : (n ≡ 0 → ⊥) → n ≤ limit → length t < entriesEnd n → bad 11 ≡ curvOf limit t
+  pub table-short : (n ≡ 0 → ⊥) → n ≤ limit → length t < 12 + 2 * n → bad 11 ≡ curvOf limit t
   unfolding curvOf
   table-short z l k = simp (← h, ne-eqb _ _ z, le-ltb _ _ l, lt-ltb _ _ k)
 
-  pub table-whole : (n ≡ 0 → ⊥) → n ≤ limit → entriesEnd n ≤ length t → good (tableShape n) ≡ curvOf limit t
+  pub table-whole : (n ≡ 0 → ⊥) → n ≤ limit → 12 + 2 * n ≤ length t → good (tableShape n) ≡ curvOf limit t
   unfolding curvOf tableShape
   table-whole z l k = simp (← h, ne-eqb _ _ z, le-ltb _ _ l, le-ltb _ _ k)
 
@@ -90,18 +84,45 @@ module _ (walk : Walk) (n : ℕ) where
   unfolding tableShape stepOf
   step-none z e = simp (eq-eqb _ _ z, e)
 
-  pub step-some : (n ≡ 0 → ⊥) → entriesEnd n ≡ stepOf walk (tableShape n)
+  pub step-some : (n ≡ 0 → ⊥) → 12 + 2 * n ≡ stepOf walk (tableShape n)
   unfolding tableShape stepOf sizeOf
   step-some z = simp (ne-eqb _ _ z)
 
 module _ (start n : ℕ) where
-  pub words-none : n ≡ 0 → recordOf emptyKind start n [] ≡ wordsOf start (tableShape n)
+  pub words-none : n ≡ 0 → recordOf 0 start n [] ≡ wordsOf start (tableShape n)
   unfolding tableShape wordsOf
   words-none z = simp z
 
-  pub words-some : (n ≡ 0 → ⊥) → recordOf tableKind start n [] ≡ wordsOf start (tableShape n)
+  pub words-some : (n ≡ 0 → ⊥) → recordOf 1 start n [] ≡ wordsOf start (tableShape n)
   unfolding tableShape wordsOf
   words-some z = simp (ne-eqb _ _ z)
+
+module _ (walk : Walk) (start limit : ℕ) (t : List ℕ) (found : Found) (j : tableFrom found ≡ curvOf limit t) where
+  module _ (n : ℕ) (e : found ≡ Found.Number n) where
+    table-is : good (tableShape n) ≡ curvOf limit t
+    table-is = sym (ap tableFrom e) ∙ j
+
+    pub table-value : (r : CurveRecord) (m : ℕ) → words r ≡ wordsOf start (tableShape n) → m ≡ stepOf walk (tableShape n) → value (words r) m ≡ answerOf walk start (curvOf limit t)
+    table-value r m f g = answering walk start table-is f g
+
+    pub table-on : (m : ℕ) → m ≡ stepOf walk (tableShape n) → good m ≡ stepChecked walk (curvOf limit t)
+    table-on m g = stepping walk start table-is g
+
+    pub table-written : (r : CurveRecord) (m : ℕ) (slot slot' : List ℕ) → words r ≡ wordsOf start (tableShape n) → slot' ≡ sets slot 0 (words r) → m ≡ stepOf walk (tableShape n) → StepAndSlot walk start (curvOf limit t) (Step.On m) slot slot'
+    table-written r m slot slot' f h g = writing walk start table-is g slot slot' f h
+
+  module _ (why : Refusal) (e : found ≡ Found.Refused why) where
+    table-not : bad (refusalNumber why) ≡ curvOf limit t
+    table-not = sym (ap tableFrom e) ∙ j
+
+    pub table-refused : refused (refusalNumber why) ≡ answerOf walk start (curvOf limit t)
+    table-refused = refusing walk start table-not
+
+    pub table-stops : bad (refusalNumber why) ≡ stepChecked walk (curvOf limit t)
+    table-stops = stopping walk start table-not
+
+    pub table-kept : (slot : List ℕ) → StepAndSlot walk start (curvOf limit t) (Step.Refused why) slot slot
+    table-kept slot = keeping walk start why table-not slot
 
 -- ---- `para`
 
@@ -119,11 +140,11 @@ module _ (type a : ℕ) where
   divides-test m l = simp (le-leb _ _ m, le-leb _ _ l)
 
 module _ (t : List ℕ) (n i : ℕ) where
-  pub parameter-read : (w : ℕ) → w ≡ u32At t (dataStart + 4 * i) → i < n → w ≡ getD (parametersAt t n) i 0
-  parameter-read w h l = h ∙ sym (word-at t dataStart n i l)
+  pub parameter-read : (w : ℕ) → w ≡ u32At t (12 + 4 * i) → i < n → w ≡ getD (wordsAt t 12 n) i 0
+  parameter-read w h l = h ∙ sym (word-at t 12 n i l)
 
-  pub parameter-unused : n ≤ i → 0 ≡ getD (parametersAt t n) i 0
-  parameter-unused l = sym (word-past t dataStart n i l)
+  pub parameter-unused : n ≤ i → 0 ≡ getD (wordsAt t 12 n) i 0
+  parameter-unused l = sym (word-past t 12 n i l)
 
 module _ (t : List ℕ) (k : ℕ) (h : k ≡ functionType t) where
   pub para-type : 4 < k → bad 12 ≡ paraOf t
@@ -131,116 +152,171 @@ module _ (t : List ℕ) (k : ℕ) (h : k ≡ functionType t) where
   para-type l = simp (← h, lt-ltb _ _ l)
 
   module _ (n : ℕ) (m : n ≡ parameterCount k) (l : k ≤ 4) where
-    pub para-short : length t < parametersEnd n → bad 11 ≡ paraOf t
+    pub para-short : length t < 12 + 4 * n → bad 11 ≡ paraOf t
     unfolding paraOf
     para-short s = simp (← h, le-ltb _ _ l, ← m, lt-ltb _ _ s)
 
-    module _ (s : parametersEnd n ≤ length t) (p₁ : ℕ) (e₁ : p₁ ≡ getD (parametersAt t n) 1 0) (z : Bool) (d : z ≡ divides k && eqb p₁ 0) where
+    module _ (s : 12 + 4 * n ≤ length t) (p₁ : ℕ) (e₁ : p₁ ≡ getD (wordsAt t 12 n) 1 0) (z : Bool) (d : z ≡ divides k && eqb p₁ 0) where
       pub para-zero : z ≡ true → bad 13 ≡ paraOf t
       unfolding paraOf
       para-zero y = simp (← h, le-ltb _ _ l, ← m, le-ltb _ _ s, ← e₁, ← d, y)
 
-      pub para-whole : z ≡ false → good (paraIn t k) ≡ paraOf t
+      pub para-whole : z ≡ false → good (para k (wordsAt t 12 (parameterCount k))) ≡ paraOf t
       unfolding paraOf
       para-whole y = simp (← h, le-ltb _ _ l, ← m, le-ltb _ _ s, ← e₁, ← d, y)
 
-pub words-para : (t : List ℕ) (start k n : ℕ) → n ≡ parameterCount k → (p₀ p₁ p₂ p₃ p₄ p₅ p₆ : ℕ) → p₀ ≡ getD (parametersAt t n) 0 0 → p₁ ≡ getD (parametersAt t n) 1 0 → p₂ ≡ getD (parametersAt t n) 2 0 → p₃ ≡ getD (parametersAt t n) 3 0 → p₄ ≡ getD (parametersAt t n) 4 0 → p₅ ≡ getD (parametersAt t n) 5 0 → p₆ ≡ getD (parametersAt t n) 6 0 → paraKind k ∷ start ∷ n ∷ p₀ ∷ p₁ ∷ p₂ ∷ p₃ ∷ p₄ ∷ p₅ ∷ p₆ ∷ [] ≡ wordsOf start (paraIn t k)
-unfolding wordsOf
-words-para t start k n m p₀ p₁ p₂ p₃ p₄ p₅ p₆ e₀ e₁ e₂ e₃ e₄ e₅ e₆ = simp (e₀, e₁, e₂, e₃, e₄, e₅, e₆, m)
+-- a function that is taken is known, and its parameters are there
+Fits : List ℕ → Checked Shape → Type 0
+Fits t (good empty) = Unit
+Fits t (good (table n)) = Unit
+Fits t (good (para type ps)) = (type ≤ 4) × (12 + 4 * parameterCount type ≤ length t)
+Fits t (bad n) = Unit
+
+fits : (t : List ℕ) → Fits t (paraOf t)
+unfolding Fits paraOf
+fits t =
+    let P : Checked Shape → Type 0 = Fits t in
+    let type : ℕ = functionType t in
+    each P (ltb 4 type) _ _ (λ _. tt)
+    (λ m. each P (ltb (length t) (12 + 4 * parameterCount type)) _ _ (λ _. tt)
+    (λ e. each P (divides type && eqb (getD (parameters t) 1 0) 0) _ _ (λ _. tt) (λ _. (ltb-false 4 type m, ltb-false (length t) _ e))))
+
+module _ (walk : Walk) (start : ℕ) (t : List ℕ) (found : Found) (j : paraFrom t found ≡ paraOf t) where
+  module _ (k : ℕ) (e : found ≡ Found.Number k) where
+    para-is : good (para k (wordsAt t 12 (parameterCount k))) ≡ paraOf t
+    para-is = sym (ap (paraFrom t) e) ∙ j
+
+    inside-it : (k ≤ 4) × (12 + 4 * parameterCount k ≤ length t)
+    unfolding Fits
+    inside-it = subst (Fits t) (sym para-is) (fits t)
+
+    pub para-known : k ≤ 4
+    para-known = inside-it .0
+
+    pub kind-fits : 2 + k < 2 ^ 32
+    kind-fits = omega (arith, para-known)
+
+    module _ (n : ℕ) (m : n ≡ parameterCount k) where
+      pub para-fits : 12 + 4 * n ≤ length t
+      para-fits = rw m (inside-it .1)
+
+      module _ (p₀ p₁ p₂ p₃ p₄ p₅ p₆ c : ℕ) (g : c ≡ 12 + 4 * n) (e₀ : p₀ ≡ getD (wordsAt t 12 n) 0 0) (e₁ : p₁ ≡ getD (wordsAt t 12 n) 1 0) (e₂ : p₂ ≡ getD (wordsAt t 12 n) 2 0) (e₃ : p₃ ≡ getD (wordsAt t 12 n) 3 0) (e₄ : p₄ ≡ getD (wordsAt t 12 n) 4 0) (e₅ : p₅ ≡ getD (wordsAt t 12 n) 5 0) (e₆ : p₆ ≡ getD (wordsAt t 12 n) 6 0) where
+        row : List ℕ
+        row = (2 + k) ∷ start ∷ n ∷ p₀ ∷ p₁ ∷ p₂ ∷ p₃ ∷ p₄ ∷ p₅ ∷ p₆ ∷ []
+
+        row-is : row ≡ wordsOf start (para k (wordsAt t 12 (parameterCount k)))
+        unfolding wordsOf row
+        row-is = simp (e₀, e₁, e₂, e₃, e₄, e₅, e₆, m)
+
+        step-is : c ≡ stepOf walk (para k (wordsAt t 12 (parameterCount k)))
+        unfolding stepOf sizeOf
+        step-is = rw (← m) g
+
+        pub para-value : value ((2 + k) ∷ start ∷ n ∷ p₀ ∷ p₁ ∷ p₂ ∷ p₃ ∷ p₄ ∷ p₅ ∷ p₆ ∷ []) c ≡ answerOf walk start (paraOf t)
+        unfolding row
+        para-value = answering walk start para-is row-is step-is
+
+        pub para-written : (slot slot' : List ℕ) → slot' ≡ sets slot 0 ((2 + k) ∷ start ∷ n ∷ p₀ ∷ p₁ ∷ p₂ ∷ p₃ ∷ p₄ ∷ p₅ ∷ p₆ ∷ []) → StepAndSlot walk start (paraOf t) (Step.On c) slot slot'
+        unfolding row
+        para-written slot slot' h = writing walk start para-is step-is slot slot' row-is h
+
+    pub para-on : (n c : ℕ) → n ≡ parameterCount k → c ≡ 12 + 4 * n → good c ≡ stepChecked walk (paraOf t)
+    unfolding stepOf sizeOf
+    para-on n c m g = stepping walk start para-is (rw (← m) g)
+
+  module _ (why : Refusal) (e : found ≡ Found.Refused why) where
+    para-not : bad (refusalNumber why) ≡ paraOf t
+    para-not = sym (ap (paraFrom t) e) ∙ j
+
+    pub para-refused : refused (refusalNumber why) ≡ answerOf walk start (paraOf t)
+    para-refused = refusing walk start para-not
+
+    pub para-stops : bad (refusalNumber why) ≡ stepChecked walk (paraOf t)
+    para-stops = stopping walk start para-not
+
+    pub para-kept : (slot : List ℕ) → StepAndSlot walk start (paraOf t) (Step.Refused why) slot slot
+    para-kept slot = keeping walk start why para-not slot
 
 -- ---- one curve
 
 module _ (limit : ℕ) (t : List ℕ) where
-  pub curve-short : length t < tagSize → bad 11 ≡ curveOf limit t
+  seen-short : length t < 12 → bad 11 ≡ curveOf limit t
   unfolding curveOf
-  curve-short l = simp (lt-ltb _ _ l)
+  seen-short l = simp (lt-ltb _ _ l)
 
-  module _ (l : tagSize ≤ length t) (w : ℕ) (h : w ≡ u32At t 0) where
-    pub curve-table : (x : Checked Shape) → w ≡ signatureOf Curv → x ≡ curvOf limit t → x ≡ curveOf limit t
+  module _ (l : 12 ≤ length t) (w : ℕ) (h : w ≡ u32At t 0) where
+    seen-table : w ≡ signatureOf Curv → curvOf limit t ≡ curveOf limit t
     unfolding curveOf
-    curve-table x e g = simp (le-ltb _ _ l, ← h, eq-eqb _ _ e) g
+    seen-table e = simp (le-ltb _ _ l, ← h, eq-eqb _ _ e)
 
     module _ (n : w ≡ signatureOf Curv → ⊥) where
-      pub curve-para : (x : Checked Shape) → w ≡ signatureOf Para → x ≡ paraOf t → x ≡ curveOf limit t
+      seen-para : w ≡ signatureOf Para → paraOf t ≡ curveOf limit t
       unfolding curveOf
-      curve-para x e g = simp (le-ltb _ _ l, ← h, ne-eqb _ _ n, eq-eqb _ _ e) g
+      seen-para e = simp (le-ltb _ _ l, ← h, ne-eqb _ _ n, eq-eqb _ _ e)
 
-      pub curve-other : (w ≡ signatureOf Para → ⊥) → bad 9 ≡ curveOf limit t
+      seen-other : (w ≡ signatureOf Para → ⊥) → bad 9 ≡ curveOf limit t
       unfolding curveOf
-      curve-other m = simp (le-ltb _ _ l, ← h, ne-eqb _ _ n, ne-eqb _ _ m)
+      seen-other m = simp (le-ltb _ _ l, ← h, ne-eqb _ _ n, ne-eqb _ _ m)
 
--- ---- what is made of the curve that is found: an answer, a step, a slot
+module _ (walk : Walk) (start limit : ℕ) (t : List ℕ) where
+  pub curve-short : length t < 12 → refused 11 ≡ answerOf walk start (curveOf limit t)
+  curve-short l = refusing walk start (seen-short limit t l)
 
-module _ (walk : Walk) (start limit : ℕ) (t : List ℕ) (found : Found) (j : foundIn t found ≡ curveOf limit t) where
-  module _ (n : ℕ) (e : found ≡ Found.Table n) where
-    table-is : good (tableShape n) ≡ curveOf limit t
-    table-is = sym (ap (foundIn t) e) ∙ j
+  pub short-stops : length t < 12 → bad 11 ≡ stepChecked walk (curveOf limit t)
+  short-stops l = stopping walk start (seen-short limit t l)
 
-    module _ (m : ℕ) (g : m ≡ stepOf walk (tableShape n)) where
-      pub table-on : good m ≡ stepChecked walk (curveOf limit t)
-      table-on = stepping walk start table-is g
+  module _ (l : 12 ≤ length t) (w : ℕ) (h : w ≡ u32At t 0) where
+    pub curve-table : (r : Answer) → w ≡ signatureOf Curv → r ≡ answerOf walk start (curvOf limit t) → r ≡ answerOf walk start (curveOf limit t)
+    curve-table r e g = g ∙ ap (answerOf walk start) (seen-table limit t l w h e)
 
-      module _ (r : CurveRecord) (f : words r ≡ wordsOf start (tableShape n)) where
-        pub table-value : value (words r) m ≡ answerOf walk start (curveOf limit t)
-        table-value = answering walk start table-is f g
+    pub table-steps : (r : Checked ℕ) → w ≡ signatureOf Curv → r ≡ stepChecked walk (curvOf limit t) → r ≡ stepChecked walk (curveOf limit t)
+    table-steps r e g = g ∙ ap (stepChecked walk) (seen-table limit t l w h e)
 
-        pub table-written : (slot slot' : List ℕ) → recordWords ≤ length slot → slot' ≡ sets slot 0 (words r) → StepAndSlot walk start (inSlot slot (curveOf limit t)) (Step.On m) slot slot'
-        table-written slot slot' l h = writing walk start (in-slot slot l table-is) g slot slot' f h
+    module _ (n : w ≡ signatureOf Curv → ⊥) where
+      pub curve-para : (r : Answer) → w ≡ signatureOf Para → r ≡ answerOf walk start (paraOf t) → r ≡ answerOf walk start (curveOf limit t)
+      curve-para r e g = g ∙ ap (answerOf walk start) (seen-para limit t l w h n e)
 
-  module _ (k : ℕ) (e : found ≡ Found.Para k) where
-    para-is : good (paraIn t k) ≡ curveOf limit t
-    para-is = sym (ap (foundIn t) e) ∙ j
+      pub para-steps : (r : Checked ℕ) → w ≡ signatureOf Para → r ≡ stepChecked walk (paraOf t) → r ≡ stepChecked walk (curveOf limit t)
+      para-steps r e g = g ∙ ap (stepChecked walk) (seen-para limit t l w h n e)
 
-    para-laid : ParametricCurveType t k (parametersAt t (parameterCount k))
-    unfolding Laid
-    para-laid = laid limit t (paraIn t k) (sym para-is) .0
+      pub curve-other : (w ≡ signatureOf Para → ⊥) → refused 9 ≡ answerOf walk start (curveOf limit t)
+      curve-other m = refusing walk start (seen-other limit t l w h n m)
 
-    -- the function is known, and its parameters are there
-    pub para-known : k ≤ 4
-    para-known = para-laid .known
+      pub other-stops : (w ≡ signatureOf Para → ⊥) → bad 9 ≡ stepChecked walk (curveOf limit t)
+      other-stops m = stopping walk start (seen-other limit t l w h n m)
 
-    pub para-there : parametersEnd (parameterCount k) ≤ length t
-    para-there = para-laid .whole
+-- into a slot
+module _ (walk : Walk) (start limit : ℕ) (t slot : List ℕ) where
+  pub slot-short : length slot < recordWords → StepAndSlot walk start (inSlot slot (curveOf limit t)) (Step.Refused TooFewSlots) slot slot
+  unfolding inSlot
+  slot-short s = keeping walk start TooFewSlots (rw (lt-ltb _ _ s)) slot
 
-    module _ (m : ℕ) (g : m ≡ parametersEnd (parameterCount k)) where
-      para-step-is : m ≡ stepOf walk (paraIn t k)
-      unfolding stepOf sizeOf
-      para-step-is = g
+  module _ (s : recordWords ≤ length slot) where
+    in-it : {x : Checked Shape} → x ≡ curveOf limit t → x ≡ inSlot slot (curveOf limit t)
+    unfolding inSlot
+    in-it e = rw (le-ltb _ _ s) e
 
-      pub para-on : good m ≡ stepChecked walk (curveOf limit t)
-      para-on = stepping walk start para-is para-step-is
+    pub slot-kept : length t < 12 → StepAndSlot walk start (inSlot slot (curveOf limit t)) (Step.Refused CurveRunsOut) slot slot
+    slot-kept l = keeping walk start CurveRunsOut (in-it (seen-short limit t l)) slot
 
-      module _ (r : CurveRecord) (f : words r ≡ wordsOf start (paraIn t k)) where
-        pub para-value : value (words r) m ≡ answerOf walk start (curveOf limit t)
-        para-value = answering walk start para-is f para-step-is
+    module _ (l : 12 ≤ length t) (w : ℕ) (h : w ≡ u32At t 0) where
+      pub slot-table : (r : Step) (slot' : List ℕ) → w ≡ signatureOf Curv → StepAndSlot walk start (curvOf limit t) r slot slot' → StepAndSlot walk start (inSlot slot (curveOf limit t)) r slot slot'
+      slot-table r slot' e g = subst (λ (x : Checked Shape). StepAndSlot walk start x r slot slot') (in-it (seen-table limit t l w h e)) g
 
-        pub para-written : (slot slot' : List ℕ) → recordWords ≤ length slot → slot' ≡ sets slot 0 (words r) → StepAndSlot walk start (inSlot slot (curveOf limit t)) (Step.On m) slot slot'
-        para-written slot slot' l h = writing walk start (in-slot slot l para-is) para-step-is slot slot' f h
+      module _ (n : w ≡ signatureOf Curv → ⊥) where
+        pub slot-para : (r : Step) (slot' : List ℕ) → w ≡ signatureOf Para → StepAndSlot walk start (paraOf t) r slot slot' → StepAndSlot walk start (inSlot slot (curveOf limit t)) r slot slot'
+        slot-para r slot' e g = subst (λ (x : Checked Shape). StepAndSlot walk start x r slot slot') (in-it (seen-para limit t l w h n e)) g
 
-  module _ (why : Refusal) (e : found ≡ Found.Refused why) where
-    curve-not : bad (refusalNumber why) ≡ curveOf limit t
-    curve-not = sym (ap (foundIn t) e) ∙ j
-
-    pub curve-refused : refused (refusalNumber why) ≡ answerOf walk start (curveOf limit t)
-    curve-refused = refusing walk start curve-not
-
-    pub curve-stops : bad (refusalNumber why) ≡ stepChecked walk (curveOf limit t)
-    curve-stops = stopping walk start curve-not
-
-    pub slot-kept : (slot : List ℕ) → recordWords ≤ length slot → StepAndSlot walk start (inSlot slot (curveOf limit t)) (Step.Refused why) slot slot
-    slot-kept slot l = keeping walk start why (in-slot slot l curve-not) slot
-
-pub slot-short : (walk : Walk) (start : ℕ) (slot : List ℕ) (x : Checked Shape) → length slot < recordWords → StepAndSlot walk start (inSlot slot x) (Step.Refused TooFewSlots) slot slot
-unfolding inSlot
-slot-short walk start slot x s = keeping walk start TooFewSlots (rw (lt-ltb _ _ s)) slot
+        pub slot-other : (w ≡ signatureOf Para → ⊥) → StepAndSlot walk start (inSlot slot (curveOf limit t)) (Step.Refused OtherCurve) slot slot
+        slot-other m = keeping walk start OtherCurve (in-it (seen-other limit t l w h n m)) slot
 
 -- ---- the lone reader
 
 module _ (size : ℕ) where
-  pub small-not : size ≡ 0 → false ≡ leb 1 size && ltb size tagSize
+  pub small-not : size ≡ 0 → false ≡ leb 1 size && ltb size 12
   small-not z = rw z
 
-  pub small-test : (size ≡ 0 → ⊥) → ltb size tagSize ≡ leb 1 size && ltb size tagSize
+  pub small-test : (size ≡ 0 → ⊥) → ltb size 12 ≡ leb 1 size && ltb size 12
   small-test z = let m : 1 ≤ size = omega arith in simp (le-leb _ _ m)
 
 module _ (walk : Walk) (limit : ℕ) (p : List ℕ) (entry size : ℕ) (four : Place) (h : four ≡ placeOf (length p) entry 4) where
@@ -248,7 +324,7 @@ module _ (walk : Walk) (limit : ℕ) (p : List ℕ) (entry size : ℕ) (four : P
   unfolding trcOf
   trc-none e = simp (lt-ltb _ _ (past _ _ _ h e))
 
-  module _ (from to : ℕ) (e : four ≡ In from to) (small : Bool) (b : small ≡ leb 1 size && ltb size tagSize) where
+  module _ (from to : ℕ) (e : four ≡ In from to) (small : Bool) (b : small ≡ leb 1 size && ltb size 12) where
     pub trc-small : small ≡ true → absent ≡ trcOf walk limit p entry size
     unfolding trcOf
     trc-small y = let i = inside _ _ _ h e in simp (le-ltb _ _ (i .fits), ← b, y)
@@ -270,7 +346,7 @@ module _ (walk : Walk) (limit : ℕ) (p : List ℕ) (entry size : ℕ) (four : P
               let l : length p < entry + size = rw q at (past _ _ _ g f) in
               simp (le-ltb _ _ (i .fits), ← b, y, lt-ltb _ _ l)
 
-      pub trc-tag : (r : Answer) (start end : ℕ) → tag ≡ In start end → r ≡ answerOf walk tagSize (curveOf limit (take (end - start) (drop start p))) → r ≡ trcOf walk limit p entry size
+      pub trc-tag : (r : Answer) (start end : ℕ) → tag ≡ In start end → r ≡ answerOf walk 12 (curveOf limit (take (end - start) (drop start p))) → r ≡ trcOf walk limit p entry size
       unfolding trcOf
       trc-tag r start end f w = by (eqb size 0) refl
         where
@@ -289,20 +365,22 @@ module _ (walk : Walk) (limit : ℕ) (p : List ℕ) (entry size : ℕ) (four : P
               let l : entry + size ≤ length p = rw q at (j .fits) in
               simp (le-ltb _ _ (i .fits), ← b, y, le-ltb _ _ l, k) (simp (j .from-is, j .to-is, q, part-is p entry size) at w)
 
-pub ruleset table-laws = (table-empty, table-over, table-short, table-whole)
+pub ruleset found-table-laws = (table-empty, table-over, table-short, table-whole)
+
+pub ruleset table-laws = (table-value, table-on, table-written, table-refused, table-stops, table-kept)
 
 pub ruleset divides-laws = (divides-low, divides-high, divides-test)
 
 pub ruleset parameter-laws = (parameter-read, parameter-unused)
 
-pub ruleset para-laws = (para-type, para-short, para-zero, para-whole)
+pub ruleset found-para-laws = (para-type, para-short, para-zero, para-whole)
+
+pub ruleset para-laws = (para-value, para-on, para-written, para-refused, para-stops, para-kept)
 
 pub ruleset curve-laws = (curve-short, curve-table, curve-para, curve-other)
 
-pub ruleset answer-laws = (table-value, para-value, curve-refused)
+pub ruleset step-laws = (short-stops, table-steps, para-steps, other-stops)
 
-pub ruleset step-laws = (table-on, para-on, curve-stops)
-
-pub ruleset slot-laws = (slot-short, table-written, para-written, slot-kept)
+pub ruleset slot-laws = (slot-short, slot-kept, slot-table, slot-para, slot-other)
 
 pub ruleset trc-laws = (trc-none, trc-small, trc-past, trc-tag)

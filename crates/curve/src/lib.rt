@@ -19,13 +19,13 @@ ghost use Prim.Native.Nat.{_+_, _*_, _≤_};
 ghost use lib.Dec.{ltb, leb, eqb};
 ghost use lib.ListN.{length, getD};
 ghost use lib.Seq.{sets};
-ghost use Rattle.fields.specs.Bytes.{u32At};
+ghost use Rattle.fields.specs.Bytes.{u32At, wordsAt};
 ghost use Rattle.fields.specs.House.{tagSize};
 ghost use Rattle.curve_meaning.specs.Answer.{words, inNumbers, answerOf, stepChecked, stepInNumbers, inSlot, StepAndSlot};
 ghost use Rattle.curve_meaning.specs.Curve.{trcOf, curveOf, curvOf, paraOf, divides};
-ghost use Rattle.curve_meaning.specs.Layout.{parameterCount, parametersEnd, parametersAt};
+ghost use Rattle.curve_meaning.specs.Layout.{parameterCount, parametersEnd};
 ghost use Rattle.curve_meaning.specs.Shape.{emptyStep, stepOf, tableShape, recordWords, wordsOf};
-ghost use Rattle.curve.specs.Found.{paraIn, foundIn};
+ghost use Rattle.curve.specs.Found.{tableFrom, paraFrom};
 
 // curveType, 'curv'                      parametricCurveType, 'para'
 //  0 to  3  signature                     0 to  3  signature
@@ -47,10 +47,9 @@ const ENTRY_BYTES: u64 = 2;
 
 const PARAMETER_BYTES: u64 = 4;
 
-// What a curve is by its type alone: a table of so many entries, none for an empty curve, or a function of that type; or why it is refused.
+// What a curve's type alone tells: the entries of a table, or the type of a function; or why the curve is refused.
 enum Found {
-    Table(u32),
-    Para(u32),
+    Number(u32),
     Refused(Refusal),
 }
 
@@ -85,12 +84,11 @@ fn parameter_count(function: u32) -> u32
     COUNT_TO_LENGTH[function as usize]
 }
 
-// The step behind a function.
-fn para_step(function: u32) -> u64
-    requires { ⌜ function ≤ 4 ⌝ }
-    ensures { λ r. ⌜ r ≡ parametersEnd (parameterCount function) ⌝ }
+// The step behind a function of so many parameters.
+fn para_step(count: u32) -> u64
+    ensures { λ r. ⌜ r ≡ parametersEnd count ⌝ }
 {
-    DATA + PARAMETER_BYTES * (parameter_count(function) as u64)
+    DATA + PARAMETER_BYTES * (count as u64)
 }
 
 // The number that stands at `at`, all of it.
@@ -103,8 +101,8 @@ fn number_at(tag: &[u8], at: usize) -> u32
 
 // Parameter i of n, and 0 behind the last.
 fn parameter(tag: &[u8], n: u32, i: u32) -> u32
-    requires { ⌜ parametersEnd n ≤ length (now tag) ⌝ }
-    ensures { λ r. ⌜ r ≡ getD (parametersAt (now (tag .entry)) n) i 0 ⌝ }
+    requires { ⌜ 12 + 4 * n ≤ length (now tag) ⌝ }
+    ensures { λ r. ⌜ r ≡ getD (wordsAt (now (tag .entry)) 12 n) i 0 ⌝ }
 {
     if i < n {
         number_at(tag, DATA as usize + PARAMETER_BYTES as usize * (i as usize))
@@ -126,13 +124,13 @@ fn divides_by_zero(function: u32, a: u32) -> bool
     a == 0
 }
 
-// `curv`: how many entries it has.
+// `curv`: how many entries it has, none for an empty curve.
 fn find_table(tag: &[u8], limit: u64) -> Found
-    ensures { λ r. ⌜ foundIn (now (tag .entry)) r ≡ curvOf limit (now (tag .entry)) ⌝ }
+    ensures { λ r. ⌜ tableFrom r ≡ curvOf limit (now (tag .entry)) ⌝ }
 {
     let entries = fields::u32_at(tag, InTag(ENTRY_COUNT));
     if entries == 0 {
-        return Found::Table(0);
+        return Found::Number(0);
     }
     if limit < entries as u64 {
         return Found::Refused(Refusal::TooManyEntries);
@@ -140,12 +138,12 @@ fn find_table(tag: &[u8], limit: u64) -> Found
     if (tag.len() as u64) < DATA + ENTRY_BYTES * (entries as u64) {
         return Found::Refused(Refusal::CurveRunsOut);
     }
-    Found::Table(entries)
+    Found::Number(entries)
 }
 
 // `para`: which function it is.
 fn find_para(tag: &[u8]) -> Found
-    ensures { λ r. ⌜ foundIn (now (tag .entry)) r ≡ paraOf (now (tag .entry)) ⌝ }
+    ensures { λ r. ⌜ paraFrom (now (tag .entry)) r ≡ paraOf (now (tag .entry)) ⌝ }
 {
     let function = fields::u16_at(tag, InTag(FUNCTION_TYPE)) as u32;
     if 4 < function {
@@ -159,24 +157,49 @@ fn find_para(tag: &[u8]) -> Found
     if divides_by_zero(function, a) {
         return Found::Refused(Refusal::ZeroDivision);
     }
-    Found::Para(function)
+    Found::Number(function)
 }
 
-// The curve at the front of `bytes`, which may hold more behind it.
-fn find_curve(bytes: &[u8], limit: u64) -> Found
-    ensures { λ r. ⌜ foundIn (now (bytes .entry)) r ≡ curveOf limit (now (bytes .entry)) ⌝ }
+// `curv`: its step.
+fn judge_table(tag: &[u8], limit: u64, walk: Walk) -> Step
+    ensures { λ r. ⌜ stepInNumbers r ≡ stepChecked walk (curvOf limit (now (tag .entry))) ⌝ }
+{
+    let found = find_table(tag, limit);
+    match found {
+        Found::Number(entries) => Step::On(table_step(entries, walk)),
+        Found::Refused(why) => Step::Refused(why),
+    }
+}
+
+// `para`: its step.
+fn judge_para(tag: &[u8], walk: Walk) -> Step
+    ensures { λ r. ⌜ stepInNumbers r ≡ stepChecked walk (paraOf (now (tag .entry))) ⌝ }
+{
+    let found = find_para(tag);
+    match found {
+        Found::Number(function) => {
+            let n = parameter_count(function);
+            Step::On(para_step(n))
+        }
+        Found::Refused(why) => Step::Refused(why),
+    }
+}
+
+// The curve at the front of `bytes`, which may hold more behind it: how far a walk goes on, and nothing else of it.
+pub fn judge_curve(bytes: &[u8], limit: u64, walk: Walk) -> Step
+    ensures { λ r. ⌜ stepInNumbers r ≡ stepChecked walk (curveOf limit (now (bytes .entry))) ⌝ }
 {
     if bytes.len() < TAG_SIZE as usize {
-        return Found::Refused(Refusal::CurveRunsOut);
+        return Step::Refused(Refusal::CurveRunsOut);
     }
     let signature = fields::u32_at(bytes, InTag(SIGNATURE));
     if signature == Kind::CURV {
-        return find_table(bytes, limit);
+        return judge_table(bytes, limit, walk);
     }
     if signature == Kind::PARA {
-        return find_para(bytes);
+        return judge_para(bytes, walk);
     }
-    Found::Refused(Refusal::OtherCurve)
+    Step::Refused(Refusal::OtherCurve)
 }
 
 // A table's record.
@@ -198,56 +221,64 @@ fn table_record(start: u32, entries: u32) -> CurveRecord
     }
 }
 
-// A function's record.
-fn para_record(tag: &[u8], start: u32, function: u32) -> CurveRecord
-    requires { ⌜ (function ≤ 4) × (parametersEnd (parameterCount function) ≤ length (now tag)) ⌝ }
-    ensures { λ r. ⌜ words r ≡ wordsOf start (paraIn (now (tag .entry)) function) ⌝ }
+// `curv`: an empty curve, or a table.
+fn read_table(tag: &[u8], start: u32, limit: u64, walk: Walk) -> CurveAnswer
+    ensures { λ r. ⌜ inNumbers r ≡ answerOf walk start (curvOf limit (now (tag .entry))) ⌝ }
 {
-    let n = parameter_count(function);
-    CurveRecord {
-        kind: PARA_KIND + function,
-        start,
-        count: n,
-        g: parameter(tag, n, 0),
-        a: parameter(tag, n, 1),
-        b: parameter(tag, n, 2),
-        c: parameter(tag, n, 3),
-        d: parameter(tag, n, 4),
-        e: parameter(tag, n, 5),
-        f: parameter(tag, n, 6),
-    }
-}
-
-// The curve at the front of `bytes`: how far a walk goes on, and nothing else of it.
-pub fn judge_curve(bytes: &[u8], limit: u64, walk: Walk) -> Step
-    ensures { λ r. ⌜ stepInNumbers r ≡ stepChecked walk (curveOf limit (now (bytes .entry))) ⌝ }
-{
-    let found = find_curve(bytes, limit);
+    let found = find_table(tag, limit);
     match found {
-        Found::Table(entries) => Step::On(table_step(entries, walk)),
-        Found::Para(function) => Step::On(para_step(function)),
-        Found::Refused(why) => Step::Refused(why),
-    }
-}
-
-// The curve at the front of `bytes`. `start` is where its data start in the tag, for the record. Never absent.
-pub fn read_curve(bytes: &[u8], start: u32, limit: u64, walk: Walk) -> CurveAnswer
-    ensures { λ r. ⌜ inNumbers r ≡ answerOf walk start (curveOf limit (now (bytes .entry))) ⌝ }
-{
-    let found = find_curve(bytes, limit);
-    match found {
-        Found::Table(entries) => {
+        Found::Number(entries) => {
             let curve = table_record(start, entries);
             let consumed = table_step(entries, walk);
             CurveAnswer::Value { curve, consumed }
         }
-        Found::Para(function) => {
-            let curve = para_record(bytes, start, function);
-            let consumed = para_step(function);
+        Found::Refused(why) => CurveAnswer::Refused(why),
+    }
+}
+
+// `para`: a function and its parameters.
+fn read_para(tag: &[u8], start: u32, walk: Walk) -> CurveAnswer
+    ensures { λ r. ⌜ inNumbers r ≡ answerOf walk start (paraOf (now (tag .entry))) ⌝ }
+{
+    let found = find_para(tag);
+    match found {
+        Found::Number(function) => {
+            let n = parameter_count(function);
+            let curve = CurveRecord {
+                kind: PARA_KIND + function,
+                start,
+                count: n,
+                g: parameter(tag, n, 0),
+                a: parameter(tag, n, 1),
+                b: parameter(tag, n, 2),
+                c: parameter(tag, n, 3),
+                d: parameter(tag, n, 4),
+                e: parameter(tag, n, 5),
+                f: parameter(tag, n, 6),
+            };
+            let consumed = para_step(n);
             CurveAnswer::Value { curve, consumed }
         }
         Found::Refused(why) => CurveAnswer::Refused(why),
     }
+}
+
+// The curve at the front of `bytes`, which may hold more behind it. `start` is where its data start in the tag, for the record.
+// Never absent.
+pub fn read_curve(bytes: &[u8], start: u32, limit: u64, walk: Walk) -> CurveAnswer
+    ensures { λ r. ⌜ inNumbers r ≡ answerOf walk start (curveOf limit (now (bytes .entry))) ⌝ }
+{
+    if bytes.len() < TAG_SIZE as usize {
+        return CurveAnswer::Refused(Refusal::CurveRunsOut);
+    }
+    let signature = fields::u32_at(bytes, InTag(SIGNATURE));
+    if signature == Kind::CURV {
+        return read_table(bytes, start, limit, walk);
+    }
+    if signature == Kind::PARA {
+        return read_para(bytes, start, walk);
+    }
+    CurveAnswer::Refused(Refusal::OtherCurve)
 }
 
 // Writes a record's words in front of a slot.
@@ -267,6 +298,49 @@ fn put(slot: &mut [u32], r: CurveRecord)
     slot[9] = r.f;
 }
 
+// `curv`: its record.
+fn write_table(tag: &[u8], start: u32, limit: u64, walk: Walk, slot: &mut [u32]) -> Step
+    requires { ⌜ recordWords ≤ length (now slot) ⌝ }
+    ensures { λ r. ⌜ StepAndSlot walk start (curvOf limit (now (tag .entry))) r (now (slot .entry)) (now (slot .exit)) ⌝ }
+{
+    let found = find_table(tag, limit);
+    match found {
+        Found::Number(entries) => {
+            put(slot, table_record(start, entries));
+            Step::On(table_step(entries, walk))
+        }
+        Found::Refused(why) => Step::Refused(why),
+    }
+}
+
+// `para`: its record.
+fn write_para(tag: &[u8], start: u32, walk: Walk, slot: &mut [u32]) -> Step
+    requires { ⌜ recordWords ≤ length (now slot) ⌝ }
+    ensures { λ r. ⌜ StepAndSlot walk start (paraOf (now (tag .entry))) r (now (slot .entry)) (now (slot .exit)) ⌝ }
+{
+    let found = find_para(tag);
+    match found {
+        Found::Number(function) => {
+            let count = parameter_count(function);
+            let curve = CurveRecord {
+                kind: PARA_KIND + function,
+                start,
+                count,
+                g: parameter(tag, count, 0),
+                a: parameter(tag, count, 1),
+                b: parameter(tag, count, 2),
+                c: parameter(tag, count, 3),
+                d: parameter(tag, count, 4),
+                e: parameter(tag, count, 5),
+                f: parameter(tag, count, 6),
+            };
+            put(slot, curve);
+            Step::On(para_step(count))
+        }
+        Found::Refused(why) => Step::Refused(why),
+    }
+}
+
 // The curve at the front of `bytes`, as `read_curve` has it: its record goes in front of `slot`, and how far the walk goes on is answered.
 // A slot of fewer than RECORD_WORDS words is refused.
 pub fn write_curve(bytes: &[u8], start: u32, limit: u64, walk: Walk, slot: &mut [u32]) -> Step
@@ -275,18 +349,17 @@ pub fn write_curve(bytes: &[u8], start: u32, limit: u64, walk: Walk, slot: &mut 
     if slot.len() < RECORD_WORDS {
         return Step::Refused(Refusal::TooFewSlots);
     }
-    let found = find_curve(bytes, limit);
-    match found {
-        Found::Table(entries) => {
-            put(slot, table_record(start, entries));
-            Step::On(table_step(entries, walk))
-        }
-        Found::Para(function) => {
-            put(slot, para_record(bytes, start, function));
-            Step::On(para_step(function))
-        }
-        Found::Refused(why) => Step::Refused(why),
+    if bytes.len() < TAG_SIZE as usize {
+        return Step::Refused(Refusal::CurveRunsOut);
     }
+    let signature = fields::u32_at(bytes, InTag(SIGNATURE));
+    if signature == Kind::CURV {
+        return write_table(bytes, start, limit, walk, slot);
+    }
+    if signature == Kind::PARA {
+        return write_para(bytes, start, walk, slot);
+    }
+    Step::Refused(Refusal::OtherCurve)
 }
 
 // Whether a size is given and holds no curve.

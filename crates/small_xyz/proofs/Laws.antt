@@ -1,4 +1,4 @@
--- An XYZNumber, and the meanings case by case, as the code meets them: each law takes what the tests and the calls on the way told. What
+-- The layouts and the meanings case by case, as the code meets them: each law takes what the tests and the calls on the way told. What
 -- stands behind the shared order is in Order.antt of `small_meaning`.
 -- Assumes nothing.
 use Prim.Native.Nat.{ℕ, _+_, _-_, _≤_, _<_}
@@ -13,13 +13,23 @@ use Rattle.fields.specs.declared.Place.{Place}
 use Rattle.fields.specs.declared.Place.the-variants.{In, Past}
 use Rattle.fields.proofs.Located.{inside, past, part-is}
 use Rattle.small_meaning.specs.Answer.{value, refused}
-use Rattle.small_meaning.specs.Layout.{measurement, firstXyz}
+use Rattle.small_meaning.specs.Layout.{measurement, conditions, firstXyz}
 use Rattle.small_meaning.specs.Small.{windowOf, tripleOf}
 
--- an XYZNumber
-pub triple-is : (t : List ℕ) (at x y z : ℕ) → x ≡ u32At t at → y ≡ u32At t (at + 4) → z ≡ u32At t (at + 8) → x ∷ y ∷ z ∷ [] ≡ wordsAt t at 3
-unfolding wordsAt
-triple-is t at x y z e₁ e₂ e₃ = let e : (at + 4) + 4 ≡ at + 8 = omega arith in simp (e₁, e₂, e₃, e)
+-- ---- the fields of each type
+
+module _ (t : List ℕ) where
+  pub triple-is : (at x y z : ℕ) → x ≡ u32At t at → y ≡ u32At t (at + 4) → z ≡ u32At t (at + 8) → x ∷ y ∷ z ∷ [] ≡ wordsAt t at 3
+  unfolding wordsAt
+  triple-is at x y z e₁ e₂ e₃ = let e : (at + 4) + 4 ≡ at + 8 = omega arith in simp (e₁, e₂, e₃, e)
+
+  pub measurement-is : (a b c d e f g : ℕ) → a ≡ u32At t 8 → b ≡ u32At t 12 → c ≡ u32At t 16 → d ≡ u32At t 20 → e ≡ u32At t 24 → f ≡ u32At t 28 → g ≡ u32At t 32 → a ∷ b ∷ c ∷ d ∷ e ∷ f ∷ g ∷ [] ≡ measurement t
+  unfolding measurement wordsAt
+  measurement-is a b c d e f g e₁ e₂ e₃ e₄ e₅ e₆ e₇ = simp (e₁, e₂, e₃, e₄, e₅, e₆, e₇)
+
+  pub conditions-are : (a b c d e f g : ℕ) → a ≡ u32At t 8 → b ≡ u32At t 12 → c ≡ u32At t 16 → d ≡ u32At t 20 → e ≡ u32At t 24 → f ≡ u32At t 28 → g ≡ u32At t 32 → a ∷ b ∷ c ∷ d ∷ e ∷ f ∷ g ∷ [] ≡ conditions t
+  unfolding conditions wordsAt
+  conditions-are a b c d e f g e₁ e₂ e₃ e₄ e₅ e₆ e₇ = simp (e₁, e₂, e₃, e₄, e₅, e₆, e₇)
 
 -- ---- `meas`
 

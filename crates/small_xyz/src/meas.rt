@@ -1,5 +1,4 @@
 // `meas`: read_meas_tag of moxcms.
-use crate::xyz;
 use fields::Entry;
 use fields::InTag;
 use fields::Kind;
@@ -9,6 +8,7 @@ use fields::TAG_SIZE;
 use small_meaning::Found;
 use small_meaning::MeasAnswer;
 use small_meaning::Measurement;
+use small_meaning::XyzNumber;
 ghost use mathlib.Core.Path.{_≡_};
 ghost use Rattle.small_meaning.specs.Answer.{measurementNumbers, measInNumbers};
 ghost use Rattle.small_meaning.specs.Layout.{measurement};
@@ -24,7 +24,11 @@ ghost use Rattle.small_meaning.specs.Small.{windowOf, measOf};
 // 32 to 35  standard illuminant
 const OBSERVER: u64 = 8;
 
-const BACKING: u32 = 12;
+const BACKING_X: u64 = 12;
+
+const BACKING_Y: u64 = 16;
+
+const BACKING_Z: u64 = 20;
 
 const GEOMETRY: u64 = 24;
 
@@ -38,7 +42,11 @@ fn measurement_at(bytes: &[u8]) -> Measurement
     ensures { λ r. ⌜ measurementNumbers r ≡ measurement (now (bytes .entry)) ⌝ }
 {
     let observer = fields::u32_at(bytes, InTag(OBSERVER));
-    let backing = xyz::xyz_at(bytes, BACKING);
+    let backing = XyzNumber {
+        x: fields::u32_at(bytes, InTag(BACKING_X)),
+        y: fields::u32_at(bytes, InTag(BACKING_Y)),
+        z: fields::u32_at(bytes, InTag(BACKING_Z)),
+    };
     let geometry = fields::u32_at(bytes, InTag(GEOMETRY));
     let flare = fields::u32_at(bytes, InTag(FLARE));
     let illuminant = fields::u32_at(bytes, InTag(ILLUMINANT));
@@ -51,7 +59,7 @@ fn measurement_at(bytes: &[u8]) -> Measurement
     }
 }
 
-// The bytes of a measurement, wherever the tag ends.
+// The 36 bytes of a measurement, wherever the tag ends.
 fn read_bytes(profile: &[u8], entry: Entry) -> MeasAnswer
     ensures { λ r. ⌜ measInNumbers r ≡ windowOf (now (profile .entry)) (entry .0) ⌝ }
 {

@@ -21,7 +21,7 @@ const FIRST: u32 = 8;
 const FIRST_END: usize = 20;
 
 // The three numbers from `at` on.
-pub(crate) fn xyz_at(tag: &[u8], at: u32) -> XyzNumber
+fn xyz_at(tag: &[u8], at: u32) -> XyzNumber
     ensures { λ r. ⌜ xyzNumbers r ≡ wordsAt (now (tag .entry)) at 3 ⌝ }
 {
     XyzNumber {

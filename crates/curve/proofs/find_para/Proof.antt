@@ -1,6 +1,6 @@
 -- `curve::find_para` meets its contract: each way out is a law of `paraOf`.
 -- Assumes nothing.
-use Rattle.curve.proofs.Laws.{para-laws}
+use Rattle.curve.proofs.Laws.{found-para-laws}
 use borrow.Author.Needs.{needs}
 use Rattle.curve.proofs.find_para.Statement.{statement}
 use Rattle.curve.proofs.find_para.Tie as tie
@@ -11,13 +11,13 @@ find-para-spec =
     (tie.spec
     (λ c κs. search needs)
     (λ c. search needs)
-    (λ c. search (needs, para-laws))
+    (λ c. search (needs, found-para-laws))
     (λ c κs. search needs)
     (λ c. search needs)
     (λ c. search needs)
     (λ c. search needs)
-    (λ c. search (needs, para-laws))
+    (λ c. search (needs, found-para-laws))
     (λ c κs. search needs)
     (λ c κs. search needs)
-    (λ c. search (needs, para-laws))
-    (λ c. search (needs, para-laws)))
+    (λ c. search (needs, found-para-laws))
+    (λ c. search (needs, found-para-laws)))

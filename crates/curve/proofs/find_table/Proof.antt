@@ -1,6 +1,6 @@
--- `curve::find_table` meets its contract: each way out is a law of `curvOf`.
+-- `curve::find_table` meets its contract: each way out is a law of `tableOf`.
 -- Assumes nothing.
-use Rattle.curve.proofs.Laws.{table-laws}
+use Rattle.curve.proofs.Laws.{found-table-laws}
 use borrow.Author.Needs.{needs}
 use Rattle.curve.proofs.find_table.Statement.{statement}
 use Rattle.curve.proofs.find_table.Tie as tie
@@ -10,11 +10,11 @@ find-table-spec =
     tie.close
     (tie.spec
     (λ c κs. search needs)
-    (λ c. search (needs, table-laws))
+    (λ c. search (needs, found-table-laws))
     (λ c. search needs)
-    (λ c. search (needs, table-laws))
+    (λ c. search (needs, found-table-laws))
     (λ c. search needs)
     (λ c. search needs)
     (λ c. search needs)
-    (λ c. search (needs, table-laws))
-    (λ c. search (needs, table-laws)))
+    (λ c. search (needs, found-table-laws))
+    (λ c. search (needs, found-table-laws)))
