@@ -99,6 +99,6 @@ module _ (job : List ℕ) {asked : CurveJob} (h : asked ≡ jobOf job) {k l : Li
   pub line-told : {offset size r : ℕ} {out out' : List ℕ} → asked ≡ CurveJob.Tag offset size → length out ≡ curveLayout .words → Gave (always curveLayout) (within (curveLayout .words) out (curveExported (trcOf Crate houseEntries (take (length job - 13) (drop 13 job)) offset size))) r out out' → Wrote k l 0 b (exportedText record { status = r; words = out' }) → Wrote k l 0 b (textOf job)
   unfolding textOf textFor
   line-told {offset} {size} {r} {out} {out'} e n g u =
-      let t = curveExported (trcOf Crate houseEntries (take (length job - 13) (drop 13 job)) offset size) in
-      let w = told-text t n (was-told (curveLayout .words) (omega arith) g) in
-      rw (← h, e, ← rest-is job 13, ← w) u
+      let t = curveExported (trcOf Crate houseEntries (drop 13 job) offset size) in
+      let w = told-text t n (was-told (curveLayout .words) (omega arith) (rw (rest-is job 13) at g)) in
+      rw (← h, e) (rw w at u)
