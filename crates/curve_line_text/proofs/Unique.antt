@@ -1,14 +1,11 @@
--- One job, one answer: what a job comes to is determined by its meaning.
+-- One job, one line: what is written for a job, and where it ends, are determined.
 -- Assumes nothing.
-use mathlib.Core.Path.{_≡_, refl, ap}
-use Rattle.fields.proofs.Never.{never}
-use Rattle.curve_meaning.specs.Answer.{inNumbers}
-use Rattle.curve_meaning.proofs.Unique.{unique as curve-unique}
-use Rattle.curve_line_text.specs.CurveLine.{Line, lineFrom}
-use Rattle.curve_line_text.specs.declared.CurveLine.{CurveLine}
+use Prim.Native.Nat.{ℕ}
+use mathlib.Core.Path.{_≡_}
+use mathlib.Core.List.{List}
+use Rattle.lines.specs.Text.{Wrote}
+use Rattle.lines.proofs.Unique.{unique as wrote-once}
+use Rattle.curve_line_text.specs.CurveLine.{textOf}
 
-pub unique : (l : Line) (r s : CurveLine) → lineFrom r ≡ l → lineFrom s ≡ l → r ≡ s
-unique l (CurveLine.Answer a) (CurveLine.Answer b) p q = ap CurveLine.Answer (curve-unique (inNumbers b) a b (cc) refl)
-unique l (CurveLine.Answer a) CurveLine.BadJob p q = never cc
-unique l CurveLine.BadJob (CurveLine.Answer b) p q = never cc
-unique l CurveLine.BadJob CurveLine.BadJob p q = refl
+pub unique : (job : List ℕ) {before after other : List ℕ} {end stop : ℕ} → Wrote before after 0 end (textOf job) → Wrote before other 0 stop (textOf job) → (after ≡ other) × (end ≡ stop)
+unique job w v = wrote-once w v

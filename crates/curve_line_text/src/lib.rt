@@ -1,98 +1,83 @@
-// A job of `curve-line` taken apart and answered, and the text that the program prints for it.
-use curve::CurveAnswer;
-use curve::CurveRecord;
-use curve::Walk;
-use fields::Entry;
+// A job of `curve-line` taken apart, and the text that the program prints for it. The curve is asked of the exported function, as a user of
+// the library asks it, and the text is printed from the words that it tells.
+use curve_meaning::RECORD_WORDS;
+use export_curve::CURVE;
+use export_words::ABSENT;
+use export_words::VALUE;
 use fields::InTag;
 ghost use mathlib.Core.Path.{_≡_};
-ghost use Rattle.curve_meaning.specs.Answer.{inNumbers, words as Answer·words};
+ghost use lib.ListN.{length};
 ghost use Rattle.lines.specs.Text.{Wrote};
-ghost use Rattle.curve_line_text.specs.CurveLine.{answered, lineFrom, lineOf, recordText, textOf};
+ghost use Rattle.curve_line_text.specs.CurveLine.{jobOf, exportedText, textOf};
 
-// What a job of `curve-line` comes to.
-pub enum CurveLine {
-    Answer(CurveAnswer),
+// What a job of `curve-line` asks for: the tag of that size at that offset of the profile, which stands behind the head.
+pub enum CurveJob {
+    Tag { offset: u32, size: u32 },
     BadJob,
 }
 
 // The longest job of `curve-line`.
 pub const MAX_CURVE_JOB: usize = 65_536;
 
-// Takes a job of `curve-line` apart and reads its curve, on the crate walk and with the house default.
-pub fn read_curve_job(job: &[u8]) -> CurveLine
-    ensures { λ r. ⌜ lineFrom r ≡ lineOf (now (job .entry)) ⌝ }
+// Takes a job of `curve-line` apart.
+pub fn read_curve_job(job: &[u8]) -> CurveJob
+    ensures { λ r. ⌜ r ≡ jobOf (now (job .entry)) ⌝ }
 {
     if job.len() < 13 {
-        return CurveLine::BadJob;
+        return CurveJob::BadJob;
     }
     if MAX_CURVE_JOB < job.len() {
-        return CurveLine::BadJob;
+        return CurveJob::BadJob;
     }
     let version = fields::u8_at(job, InTag(0));
     if version != 1 {
-        return CurveLine::BadJob;
+        return CurveJob::BadJob;
     }
     let length = fields::u32_at(job, InTag(1));
     if length as usize != job.len() - 13 {
-        return CurveLine::BadJob;
+        return CurveJob::BadJob;
     }
-    let entry = fields::u32_at(job, InTag(5));
+    let offset = fields::u32_at(job, InTag(5));
     let size = fields::u32_at(job, InTag(9));
-    let got = curve::read_trc_tag(
+    CurveJob::Tag { offset, size }
+}
+
+// Writes the text of what was told from the start of `out` on.
+fn put_exported(out: &mut [u8], status: u32, words: &[u64]) -> usize
+    requires { ⌜ length (now words) ≡ 11 ⌝ }
+    ensures { λ r. ⌜ Wrote (now (out .entry)) (now (out .exit)) 0 r (exportedText record { status = status; words = now (words .entry) }) ⌝ }
+{
+    if status == VALUE {
+        let word = lines::put(out, 0, b"curve value");
+        let first = lines::put_number(out, word, b'\n', words[0]);
+        let rest = lines::put_words(out, first, &words[..RECORD_WORDS], 1, CURVE.from, CURVE.to);
+        return lines::put(out, rest, b"\n");
+    }
+    if status == ABSENT {
+        return lines::put(out, 0, b"curve absent\n");
+    }
+    let word = lines::put(out, 0, b"curve refused");
+    let number = lines::put_number(out, word, b' ', status as u64);
+    lines::put(out, number, b"\n")
+}
+
+// Writes what `curve-line` prints for a job from the start of `out` on, as far as there is room, and answers where it ends. The curve is
+// read on the crate walk and with the house default.
+pub fn curve_line(job: &[u8], out: &mut [u8]) -> usize
+    ensures { λ r. ⌜ Wrote (now (out .entry)) (now (out .exit)) 0 r (textOf (now (job .entry))) ⌝ }
+{
+    let asked = read_curve_job(job);
+    let CurveJob::Tag { offset, size } = asked else {
+        return lines::put(out, 0, b"bad job\n");
+    };
+    let mut words = [0u64; 11];
+    let status = exports::khalyksor_read_trc_tag(
         &job[13..],
-        Entry(entry),
+        offset,
         size,
         fields::MAX_ALLOWED_TRC_SIZE,
-        Walk::Crate,
+        0,
+        &mut words,
     );
-    CurveLine::Answer(got)
-}
-
-// Writes the ten numbers of a record, the first behind the byte `first`, the others behind a space, the parameters signed.
-pub fn put_record(out: &mut [u8], at: usize, first: u8, curve: CurveRecord) -> usize
-    ensures { λ r. ⌜ Wrote (now (out .entry)) (now (out .exit)) at r (recordText first (Answer·words curve)) ⌝ }
-{
-    let kind = lines::put_number(out, at, first, curve.kind as u64);
-    let start = lines::put_number(out, kind, b' ', curve.start as u64);
-    let count = lines::put_number(out, start, b' ', curve.count as u64);
-    let parameters = [
-        curve.g,
-        curve.a,
-        curve.b,
-        curve.c,
-        curve.d,
-        curve.e,
-        curve.f,
-    ];
-    lines::put_words(out, count, &parameters)
-}
-
-// Writes the text of a reader's answer from the start of `out` on.
-fn put_answer(out: &mut [u8], answer: CurveAnswer) -> usize
-    ensures { λ r. ⌜ Wrote (now (out .entry)) (now (out .exit)) 0 r (textOf (answered (inNumbers answer))) ⌝ }
-{
-    match answer {
-        CurveAnswer::Value { curve, consumed: _ } => {
-            let word = lines::put(out, 0, b"curve value");
-            let record = put_record(out, word, b'\n', curve);
-            lines::put(out, record, b"\n")
-        }
-        CurveAnswer::Absent => lines::put(out, 0, b"curve absent\n"),
-        CurveAnswer::Refused(why) => {
-            let word = lines::put(out, 0, b"curve refused");
-            let number = lines::put_number(out, word, b' ', why.number() as u64);
-            lines::put(out, number, b"\n")
-        }
-    }
-}
-
-// Writes what `curve-line` prints for a job from the start of `out` on, as far as there is room, and answers where it ends.
-pub fn curve_line(job: &[u8], out: &mut [u8]) -> usize
-    ensures { λ r. ⌜ Wrote (now (out .entry)) (now (out .exit)) 0 r (textOf (lineOf (now (job .entry)))) ⌝ }
-{
-    let line = read_curve_job(job);
-    match line {
-        CurveLine::Answer(answer) => put_answer(out, answer),
-        CurveLine::BadJob => lines::put(out, 0, b"bad job\n"),
-    }
+    put_exported(out, status, &words)
 }
