@@ -20,7 +20,7 @@ use Rattle.curve_meaning.specs.declared.Walk.{Walk}
 use Rattle.lut_mft_meaning.specs.Answer.{Fields}
 use Rattle.lut_meaning.specs.Abm.{valueOf}
 use Rattle.lut_meaning.specs.Answer.{Abm, State, mft, abm, absent, refused, Answer}
-use Rattle.lut_meaning.specs.Layout.{matrixOffset, clutOffset, identity, matrixOf, biasOf, gridOf}
+use Rattle.lut_meaning.specs.Layout.{matrixOffset, biasFrom, clutOffset, identity, matrixOf, biasOf, gridOf}
 use Rattle.lut_meaning.specs.Lut.{tagOf, lutOf}
 use Rattle.lut_meaning.proofs.Found.{IsValue, abm-found}
 use Rattle.lut_meaning.proofs.Inside.{GridTold, lut-inside, mft-inside}
@@ -40,8 +40,14 @@ behind xs ys n i e = subst (λ (k : ℕ). getD (xs ++ ys) (k + i) 0 ≡ getD ys 
 
 mft-numbers : (f : Fields) (matrix : List ℕ) → length matrix ≡ 9 → (f .size ≡ 1) ⊎ (f .size ≡ 2) → f .inputs < 256 → f .outputs < 256 → numbersIn (mftHead f ++ matrix ++ mftRanges f) ≡ numbersOf (mft f)
 unfolding numbersIn signatureOf
-mft-numbers f matrix m (inl e) i o = rw (e, low _ i, low _ o, behind matrix (mftRanges f) 9 2 m)
-mft-numbers f matrix m (inr e) i o = rw (e, low _ i, low _ o, behind matrix (mftRanges f) 9 2 m)
+mft-numbers f matrix m size i o = by size
+  where
+    start-is : getD (matrix ++ mftRanges f) 11 0 ≡ f .clutStart
+    start-is = behind matrix (mftRanges f) 9 2 m
+
+    by : (f .size ≡ 1) ⊎ (f .size ≡ 2) → numbersIn (mftHead f ++ matrix ++ mftRanges f) ≡ numbersOf (mft f)
+    by (inl e) = rw (e, low _ i, low _ o, start-is)
+    by (inr e) = rw (e, low _ i, low _ o, start-is)
 
 -- ---- of `mAB ` and `mBA `
 
@@ -52,9 +58,15 @@ abm-numbers f grid matrix bias g m b s i o = by (f .toPcs) refl
     rows : length (grid ++ matrix ++ bias) ≡ 28
     rows = simp length-append (omega (arith, g, m, b))
 
+    start-is : getD (grid ++ matrix ++ bias ++ abmParts f) 28 0 ≡ f .start
+    start-is = behind (grid ++ matrix ++ bias) (abmParts f) 28 0 rows
+
+    size-is : getD (grid ++ matrix ++ bias ++ abmParts f) 30 0 ≡ f .size
+    size-is = behind (grid ++ matrix ++ bias) (abmParts f) 28 2 rows
+
     by : (towards : Bool) → f .toPcs ≡ towards → numbersIn (abmHead f ++ grid ++ matrix ++ bias ++ abmParts f) ≡ numbersOf (abm f)
-    by true e = rw (e, low _ i, low _ o, behind (grid ++ matrix ++ bias) (abmParts f) 28 0 rows, behind (grid ++ matrix ++ bias) (abmParts f) 28 2 rows, low _ s)
-    by false e = rw (e, low _ i, low _ o, behind (grid ++ matrix ++ bias) (abmParts f) 28 0 rows, behind (grid ++ matrix ++ bias) (abmParts f) 28 2 rows, low _ s)
+    by true e = rw (e, low _ i, low _ o, start-is, size-is, low _ s)
+    by false e = rw (e, low _ i, low _ o, start-is, size-is, low _ s)
 
 -- ---- of an answer
 
@@ -78,9 +90,9 @@ bias-length : (t : List ℕ) → length (biasOf t) ≡ 3
 unfolding biasOf
 bias-length t = by (eqb (matrixOffset t) 0)
   where
-    by : (b : Bool) → length (cond b (replicate 3 0) (wordsAt t (matrixOffset t + 36) 3)) ≡ 3
+    by : (b : Bool) → length (cond b (replicate 3 0) (wordsAt t (matrixOffset t + biasFrom) 3)) ≡ 3
     by true = refl
-    by false = words-length t (matrixOffset t + 36) 3
+    by false = words-length t (matrixOffset t + biasFrom) 3
 
 size-below : (t : List ℕ) (table : Table) (grid : List ℕ) → Bytes t → GridTold t table grid → table .size < 256
 size-below t table grid b (inl e) = rw (e .1) (omega arith)
