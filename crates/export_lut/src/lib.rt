@@ -10,7 +10,7 @@ use lut_meaning::LutAnswer;
 use lut_mft_meaning::MftTable;
 use lut_view_meaning::EntryAnswer;
 use lut_view_meaning::TableNumbers;
-ghost use Prim.Native.Nat.{_-_, _%_};
+ghost use Prim.Native.Nat.{_-_};
 ghost use mathlib.Core.Path.{_≡_};
 ghost use mathlib.Core.Bool.{cond};
 ghost use mathlib.Core.List.{_++_};
@@ -180,12 +180,6 @@ pub fn tell_entry(got: EntryAnswer, out: &mut [u64]) -> u32
     }
 }
 
-fn low_byte(word: u64) -> u8
-    ensures { λ r. ⌜ r ≡ word % 256 ⌝ }
-{
-    (word % 256) as u8
-}
-
 // The sixteen grid bytes of `mAB ` and `mBA ` and four more stand before the entries.
 fn grid_before(start: u64) -> u64
     ensures { λ r. ⌜ r ≡ start - 20 ⌝ }
@@ -202,8 +196,8 @@ fn mft_numbers(words: &[u64; 37], size: u8) -> TableNumbers
     TableNumbers {
         start: InTag(words[17]),
         entry_size: size,
-        inputs: low_byte(words[1]),
-        outputs: low_byte(words[2]),
+        inputs: export_words::low_byte(words[1]),
+        outputs: export_words::low_byte(words[2]),
         grid_at: InTag(10),
         grid_step: 0,
     }
@@ -215,9 +209,9 @@ fn abm_numbers(words: &[u64; 37]) -> TableNumbers
     let start = words[31];
     TableNumbers {
         start: InTag(start),
-        entry_size: low_byte(words[33]),
-        inputs: low_byte(words[1]),
-        outputs: low_byte(words[2]),
+        entry_size: export_words::low_byte(words[33]),
+        inputs: export_words::low_byte(words[1]),
+        outputs: export_words::low_byte(words[2]),
         grid_at: InTag(grid_before(start)),
         grid_step: 1,
     }

@@ -1,4 +1,5 @@
 // What the exported functions tell: a status, and words in front of a lent `out`.
+ghost use Prim.Native.Nat.{_%_};
 ghost use mathlib.Core.Path.{_≡_};
 ghost use lib.Seq.{sets};
 
@@ -75,4 +76,11 @@ pub fn put_numbers(out: &mut [u64], at: usize, numbers: &[u64])
         end += 1;
         i += 1;
     }
+}
+
+// The low byte of a word: where the word tells a byte, that byte.
+pub fn low_byte(word: u64) -> u8
+    ensures { λ r. ⌜ r ≡ word % 256 ⌝ }
+{
+    (word % 256) as u8
 }
