@@ -25,7 +25,14 @@ use Rattle.answers_jobs.specs.declared.StreamJob.{StreamJob}
 use Rattle.answers_jobs.specs.declared.StreamTail.{StreamTail}
 use Rattle.answers_meaning.specs.Text.{exportedText, lentText}
 
--- the words lent, as they are set before a call: word i is 0xA5A50000 + i, and i is below 8,192
+-- a job has at most so many words lent, and a line at most so many bytes: the program's buffer
+abbrev pub mostWords : ℕ
+mostWords = 8192
+
+abbrev pub mostBytes : ℕ
+mostBytes = 196608
+
+-- the words lent, as they are set before a call: word i is 0xA5A50000 + i, and i is below `mostWords`
 abbrev pub markAt : ℕ → ℕ
 markAt i = 0xA5A50000 + i % 0x10000
 
