@@ -1,4 +1,4 @@
 pub mod Marks
-pub mod Room
 pub mod Unique
 pub mod Cases
+pub mod Room
