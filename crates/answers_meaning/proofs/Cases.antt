@@ -35,4 +35,4 @@ use Rattle.answers_meaning.specs.Text.{refusedText, nameText, wordsText,
 
 pub claim : Each Holds cases
 unfolding Each Holds printed curveAnswer trcOf curveOf curvOf paraOf divides parameterCount sizeOf stepOf wordsOf aligned curveAt runAt recordsOf abmOf valueOf tableIn colourTableOf curvesOf matrixChecked ended present deviceChannels spaceChannels aCurves mCurves bCurves recordsNeeded gridOf abmMatrix biasOf stringOf stringByType textOf unicodeOf descOf slottedOf mlucOf recordsIn recordsAsked recordsFrom recordAt even wordsIn keptOf byteOf unitOf windowOf tripleOf signatureIn dateBytes measurement conditions firstXyz codePoints lentText lineOf toldOf wordsAfter layoutOf entryTold viewTold nameText wordsText exportedText lutLayout numbersIn stringLayout rowFrom wordText bytesAt markedFrom tailOf refusedText numbers numeral number decimal digitsOf foundOf answerTo chadOf chadMatrixOf nineNumbers lutOf byType isMft isWide mftOf numbersOf badNumbers badEntries badChannels outside tablesOf fieldsOf mftAnswer entrySize tablesStart entriesAt colourTable some partials shapeOf clutOf product entryOf entryFrom gridFrom inGrid pointOf wordsAt signatureOf
-claim = (refl, (refl, (refl, (refl, (refl, (refl, (refl, (refl, (refl, (refl, (refl, (refl, (refl, (refl, (refl, (refl, (refl, (refl, (refl, (refl, (refl, (refl, (refl, (refl, (refl, (refl, (refl, (refl, (refl, (refl, tt))))))))))))))))))))))))))))))
+claim = (refl, (refl, (refl, (refl, (refl, (refl, (refl, (refl, (refl, (refl, (refl, (refl, (refl, (refl, (refl, (refl, (refl, (refl, (refl, (refl, (refl, (refl, (refl, (refl, (refl, (refl, (refl, (refl, (refl, (refl, (refl, (refl, tt))))))))))))))))))))))))))))))))

@@ -73,6 +73,9 @@ absentLetters = 0x61 ∷ 0x62 ∷ 0x73 ∷ 0x65 ∷ 0x6e ∷ 0x74 ∷ []
 abbrev pub defaultLetters : List ℕ
 defaultLetters = 0x64 ∷ 0x65 ∷ 0x66 ∷ 0x61 ∷ 0x75 ∷ 0x6c ∷ 0x74 ∷ []
 
+abbrev pub refusedLetters : List ℕ
+refusedLetters = 0x72 ∷ 0x65 ∷ 0x66 ∷ 0x75 ∷ 0x73 ∷ 0x65 ∷ 0x64 ∷ []
+
 -- the word 80000000h + n: its bytes, the number, and the signed number
 abbrev pub high : ℕ → List ℕ
 high n = 0x80 ∷ 0 ∷ 0 ∷ n ∷ []
@@ -131,6 +134,9 @@ cases =
     leaves 1 (bare 0x42 0x41 3 1) 48 2 (valueLetters ++ (0x20 ∷ 0x6d ∷ 0x42 ∷ 0x41 ∷ [])) (pos 3 ∷ pos 1 ∷ (zeros 16 ++ identity ++ zeros 6)) (0xA5A50000 ∷ 0xA5A50001 ∷ []) ∷
     leaves 1 tagOfM 56 20 (valueLetters ++ (0x20 ∷ 0x6d ∷ 0x41 ∷ 0x42 ∷ [])) (pos 1 ∷ pos 2 ∷ (zeros 16 ++ identity ++ zeros 4 ++ (pos 2 ∷ pos 0 ∷ []))) (emptyAt 44 ++ emptyAt 44) ∷
     leaves 11 tagOfM 56 20 (valueLetters ++ (0x20 ∷ 0x6d ∷ 0x41 ∷ 0x42 ∷ [])) (pos 1 ∷ pos 2 ∷ (zeros 16 ++ identity ++ zeros 4 ++ (pos 2 ∷ pos 0 ∷ []))) (emptyAt 44 ++ emptyAt 56) ∷
+    -- three curves lie in the tag on the crate walk alone, and there the slots are too few
+    leaves 1 tag 60 0 refusedLetters (pos 14 ∷ []) [] ∷
+    leaves 11 tag 60 0 refusedLetters (pos 2 ∷ []) [] ∷
     -- every number of the matrix is signed, and of the bias
     leaves 1 ((0x6d ∷ 0x66 ∷ 0x74 ∷ 0x32 ∷ 0 ∷ 0 ∷ 0 ∷ 0 ∷ 1 ∷ 3 ∷ 2 ∷ 0 ∷ []) ++ nineHigh ++ (0 ∷ 2 ∷ 0 ∷ 2 ∷ []) ++ replicate 28 0) 80 0 (valueOf 0x6d 0x66 0x74 0x32) (pos 1 ∷ pos 3 ∷ pos 2 ∷ pos 2 ∷ pos 2 ∷ (nineMinus ++ (pos 52 ∷ pos 4 ∷ pos 56 ∷ pos 12 ∷ pos 68 ∷ pos 12 ∷ []))) [] ∷
     leaves 1 (head 3 3 0 32 0 ++ nineHigh ++ high 10 ++ high 11 ++ high 12) 80 0 (valueLetters ++ (0x20 ∷ 0x6d ∷ 0x41 ∷ 0x42 ∷ [])) (pos 3 ∷ pos 3 ∷ (zeros 16 ++ nineMinus ++ (minus 10 ∷ minus 11 ∷ minus 12 ∷ zeros 6))) [] ∷
