@@ -25,7 +25,7 @@ use Rattle.export_small.specs.Layout.{smallExported, chadLayout, sigLayout, dat
 use Rattle.export_text.specs.Layout.{textExported, stringLayout, descLayout}
 use Rattle.answers_jobs.specs.declared.StreamIndex.{StreamIndex}
 use Rattle.answers_jobs.specs.declared.StreamJob.{StreamJob}
-use Rattle.answers_meaning.specs.Line.{markAt, marked, lutTold, lutWordsAfter, curveTold, toldOf, wordsAfter, layoutOf, several, ToldAndWords}
+use Rattle.answers_meaning.specs.Line.{markAt, marked, lutExportedOf, lutWordsAfter, curveExportedOf, exportedOf, wordsAfter, layoutOf, several, ExportedAndWords}
 use Rattle.answers_meaning.specs.Text.{valueWord, absentWord, defaultWord, nameText, wordsText, exportedText, refusedText, lentText}
 use Rattle.answers_meaning.proofs.Marks.{marks-length, mark-is}
 
@@ -46,57 +46,57 @@ module _ (n : ℕ) (l : List ℕ) (e : length l ≡ n) where
 -- ---- what the exported functions tell, with room for the longest layout
 
 module _ (job : StreamJob) (p w b : List ℕ) (index : StreamIndex) {r : ℕ} {out out' : List ℕ} (h : length out ≡ 37) where
-  pub asked-1 : {words' : List ℕ} → job .reader ≡ 1 → GaveWith lutLayout (abmLayout .words) (lutTold job p w Crate) (lutWordsAfter job p w Crate) r out out' w words' → ToldAndWords job p w b index r out out' words'
-  unfolding toldOf layoutOf wordsAfter
+  pub asked-1 : {words' : List ℕ} → job .reader ≡ 1 → GaveWith lutLayout (abmLayout .words) (lutExportedOf job p w Crate) (lutWordsAfter job p w Crate) r out out' w words' → ExportedAndWords job p w b index r out out' words'
+  unfolding exportedOf layoutOf wordsAfter
   asked-1 e g = record { gave = rw e (was-told 37 (omega arith) (g .gave)); words-are = rw e (was-told-slots 37 (omega arith) g) }
 
-  pub asked-11 : {words' : List ℕ} → job .reader ≡ 11 → GaveWith lutLayout (abmLayout .words) (lutTold job p w Book) (lutWordsAfter job p w Book) r out out' w words' → ToldAndWords job p w b index r out out' words'
-  unfolding toldOf layoutOf wordsAfter
+  pub asked-11 : {words' : List ℕ} → job .reader ≡ 11 → GaveWith lutLayout (abmLayout .words) (lutExportedOf job p w Book) (lutWordsAfter job p w Book) r out out' w words' → ExportedAndWords job p w b index r out out' words'
+  unfolding exportedOf layoutOf wordsAfter
   asked-11 e g = record { gave = rw e (was-told 37 (omega arith) (g .gave)); words-are = rw e (was-told-slots 37 (omega arith) g) }
 
-  pub asked-3 : {words' : List ℕ} → job .reader ≡ 3 → GaveWith stringLayout (descLayout .words) (textExported (stringOf p (job .offset) (job .size) (length w))) (Text·slotsAfter p (job .offset) (job .size) w) r out out' w words' → ToldAndWords job p w b index r out out' words'
-  unfolding toldOf layoutOf wordsAfter
+  pub asked-3 : {words' : List ℕ} → job .reader ≡ 3 → GaveWith stringLayout (descLayout .words) (textExported (stringOf p (job .offset) (job .size) (length w))) (Text·slotsAfter p (job .offset) (job .size) w) r out out' w words' → ExportedAndWords job p w b index r out out' words'
+  unfolding exportedOf layoutOf wordsAfter
   asked-3 e g = record { gave = rw e (was-told 6 (omega arith) (g .gave)); words-are = rw e (was-told-slots 6 (omega arith) g) }
 
-  pub asked-2 : job .reader ≡ 2 → Gave (always curveLayout) (within (curveLayout .words) out (curveTold job p w Crate)) r out out' → ToldAndWords job p w b index r out out' w
-  unfolding toldOf layoutOf wordsAfter
+  pub asked-2 : job .reader ≡ 2 → Gave (always curveLayout) (within (curveLayout .words) out (curveExportedOf job p w Crate)) r out out' → ExportedAndWords job p w b index r out out' w
+  unfolding exportedOf layoutOf wordsAfter
   asked-2 e g = record { gave = rw e (was-told 11 (omega arith) g); words-are = rw e }
 
-  pub asked-12 : job .reader ≡ 12 → Gave (always curveLayout) (within (curveLayout .words) out (curveTold job p w Book)) r out out' → ToldAndWords job p w b index r out out' w
-  unfolding toldOf layoutOf wordsAfter
+  pub asked-12 : job .reader ≡ 12 → Gave (always curveLayout) (within (curveLayout .words) out (curveExportedOf job p w Book)) r out out' → ExportedAndWords job p w b index r out out' w
+  unfolding exportedOf layoutOf wordsAfter
   asked-12 e g = record { gave = rw e (was-told 11 (omega arith) g); words-are = rw e }
 
-  pub asked-4 : job .reader ≡ 4 → Gave (always chadLayout) (within (chadLayout .words) out (smallExported (chadOf p (job .offset) (job .size)))) r out out' → ToldAndWords job p w b index r out out' w
-  unfolding toldOf layoutOf wordsAfter
+  pub asked-4 : job .reader ≡ 4 → Gave (always chadLayout) (within (chadLayout .words) out (smallExported (chadOf p (job .offset) (job .size)))) r out out' → ExportedAndWords job p w b index r out out' w
+  unfolding exportedOf layoutOf wordsAfter
   asked-4 e g = record { gave = rw e (was-told 9 (omega arith) g); words-are = rw e }
 
-  pub asked-5 : job .reader ≡ 5 → Gave (always sigLayout) (within (sigLayout .words) out (smallExported (sigOf p (job .offset) (job .size)))) r out out' → ToldAndWords job p w b index r out out' w
-  unfolding toldOf layoutOf wordsAfter
+  pub asked-5 : job .reader ≡ 5 → Gave (always sigLayout) (within (sigLayout .words) out (smallExported (sigOf p (job .offset) (job .size)))) r out out' → ExportedAndWords job p w b index r out out' w
+  unfolding exportedOf layoutOf wordsAfter
   asked-5 e g = record { gave = rw e (was-told 1 (omega arith) g); words-are = rw e }
 
-  pub asked-6 : job .reader ≡ 6 → Gave (always dateLayout) (within (dateLayout .words) out (smallExported (dateOf p (job .offset) (job .size)))) r out out' → ToldAndWords job p w b index r out out' w
-  unfolding toldOf layoutOf wordsAfter
+  pub asked-6 : job .reader ≡ 6 → Gave (always dateLayout) (within (dateLayout .words) out (smallExported (dateOf p (job .offset) (job .size)))) r out out' → ExportedAndWords job p w b index r out out' w
+  unfolding exportedOf layoutOf wordsAfter
   asked-6 e g = record { gave = rw e (was-told 12 (omega arith) g); words-are = rw e }
 
-  pub asked-7 : job .reader ≡ 7 → Gave (always measLayout) (within (measLayout .words) out (smallExported (measOf p (job .offset) (job .size)))) r out out' → ToldAndWords job p w b index r out out' w
-  unfolding toldOf layoutOf wordsAfter
+  pub asked-7 : job .reader ≡ 7 → Gave (always measLayout) (within (measLayout .words) out (smallExported (measOf p (job .offset) (job .size)))) r out out' → ExportedAndWords job p w b index r out out' w
+  unfolding exportedOf layoutOf wordsAfter
   asked-7 e g = record { gave = rw e (was-told 7 (omega arith) g); words-are = rw e }
 
-  pub asked-8 : job .reader ≡ 8 → Gave (always viewLayout) (within (viewLayout .words) out (smallExported (viewOf p (job .offset) (job .size)))) r out out' → ToldAndWords job p w b index r out out' w
-  unfolding toldOf layoutOf wordsAfter
+  pub asked-8 : job .reader ≡ 8 → Gave (always viewLayout) (within (viewLayout .words) out (smallExported (viewOf p (job .offset) (job .size)))) r out out' → ExportedAndWords job p w b index r out out' w
+  unfolding exportedOf layoutOf wordsAfter
   asked-8 e g = record { gave = rw e (was-told 7 (omega arith) g); words-are = rw e }
 
-  pub asked-9 : job .reader ≡ 9 → Gave (always xyzLayout) (within (xyzLayout .words) out (smallExported (xyzOf p (job .offset) (job .size)))) r out out' → ToldAndWords job p w b index r out out' w
-  unfolding toldOf layoutOf wordsAfter
+  pub asked-9 : job .reader ≡ 9 → Gave (always xyzLayout) (within (xyzLayout .words) out (smallExported (xyzOf p (job .offset) (job .size)))) r out out' → ExportedAndWords job p w b index r out out' w
+  unfolding exportedOf layoutOf wordsAfter
   asked-9 e g = record { gave = rw e (was-told 3 (omega arith) g); words-are = rw e }
 
-  pub asked-10 : job .reader ≡ 10 → Gave (always cicpLayout) (within (cicpLayout .words) out (smallExported (cicpOf p (job .offset) (job .size)))) r out out' → ToldAndWords job p w b index r out out' w
-  unfolding toldOf layoutOf wordsAfter
+  pub asked-10 : job .reader ≡ 10 → Gave (always cicpLayout) (within (cicpLayout .words) out (smallExported (cicpOf p (job .offset) (job .size)))) r out out' → ExportedAndWords job p w b index r out out' w
+  unfolding exportedOf layoutOf wordsAfter
   asked-10 e g = record { gave = rw e (was-told 4 (omega arith) g); words-are = rw e }
 
 -- another reader tells of an absence
-pub asked-none : (job : StreamJob) (p w b : List ℕ) (index : StreamIndex) (out : List ℕ) → (job .reader ≡ 1 → ⊥) → (job .reader ≡ 2 → ⊥) → (job .reader ≡ 3 → ⊥) → (job .reader ≡ 4 → ⊥) → (job .reader ≡ 5 → ⊥) → (job .reader ≡ 6 → ⊥) → (job .reader ≡ 7 → ⊥) → (job .reader ≡ 8 → ⊥) → (job .reader ≡ 9 → ⊥) → (job .reader ≡ 10 → ⊥) → (job .reader ≡ 11 → ⊥) → (job .reader ≡ 12 → ⊥) → (job .reader ≡ 13 → ⊥) → ToldAndWords job p w b index 100 out out w
-unfolding toldOf layoutOf wordsAfter
+pub asked-none : (job : StreamJob) (p w b : List ℕ) (index : StreamIndex) (out : List ℕ) → (job .reader ≡ 1 → ⊥) → (job .reader ≡ 2 → ⊥) → (job .reader ≡ 3 → ⊥) → (job .reader ≡ 4 → ⊥) → (job .reader ≡ 5 → ⊥) → (job .reader ≡ 6 → ⊥) → (job .reader ≡ 7 → ⊥) → (job .reader ≡ 8 → ⊥) → (job .reader ≡ 9 → ⊥) → (job .reader ≡ 10 → ⊥) → (job .reader ≡ 11 → ⊥) → (job .reader ≡ 12 → ⊥) → (job .reader ≡ 13 → ⊥) → ExportedAndWords job p w b index 100 out out w
+unfolding exportedOf layoutOf wordsAfter
 asked-none job p w b index out n1 n2 n3 n4 n5 n6 n7 n8 n9 n10 n11 n12 n13 =
     record {
       gave = simp (ne-eqb _ _ n1, ne-eqb _ _ n2, ne-eqb _ _ n3, ne-eqb _ _ n4, ne-eqb _ _ n5, ne-eqb _ _ n6, ne-eqb _ _ n7, ne-eqb _ _ n8, ne-eqb _ _ n9, ne-eqb _ _ n10, ne-eqb _ _ n11, ne-eqb _ _ n12, ne-eqb _ _ n13) (no-words 100 100 out refl (λ e. omega arith));

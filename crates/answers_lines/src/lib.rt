@@ -17,7 +17,7 @@ ghost use mathlib.Core.List.{[]};
 ghost use lib.ListN.{length};
 ghost use Rattle.answers_jobs.specs.Stream.{tailOf};
 ghost use Rattle.lines.specs.Text.{Wrote};
-ghost use Rattle.answers_meaning.specs.Line.{marked, layoutOf, several as Line·several, lineOf, ToldAndWords, LineAndWords};
+ghost use Rattle.answers_meaning.specs.Line.{marked, layoutOf, several as Line·several, lineOf, ExportedAndWords, LineAndWords};
 ghost use Rattle.answers_meaning.specs.Text.{nameText, wordsText, exportedText, lentText};
 
 // Sets the words lent: word i to 0xA5A50000 + i.
@@ -43,7 +43,7 @@ fn view(
 ) -> u32
     requires { ⌜ tailOf (job .reader) (now behind) ≡ StreamTail.Index index ⌝ }
     requires { ⌜ job .reader ≡ 13 ⌝ }
-    ensures { λ r. ⌜ ToldAndWords job (now (profile .entry)) (now (words .entry)) (now (behind .entry)) index r (now (out .entry)) (now (out .exit)) (now (words .exit)) ⌝ }
+    ensures { λ r. ⌜ ExportedAndWords job (now (profile .entry)) (now (words .entry)) (now (behind .entry)) index r (now (out .entry)) (now (out .exit)) (now (words .exit)) ⌝ }
 {
     let mut table = [0u64; 37];
     let status = exports::khalyksor_read_lut_tag(
@@ -99,7 +99,7 @@ fn ask(
     out: &mut [u64; 37],
 ) -> u32
     requires { ⌜ tailOf (job .reader) (now behind) ≡ StreamTail.Index index ⌝ }
-    ensures { λ r. ⌜ ToldAndWords job (now (profile .entry)) (now (words .entry)) (now (behind .entry)) index r (now (out .entry)) (now (out .exit)) (now (words .exit)) ⌝ }
+    ensures { λ r. ⌜ ExportedAndWords job (now (profile .entry)) (now (words .entry)) (now (behind .entry)) index r (now (out .entry)) (now (out .exit)) (now (words .exit)) ⌝ }
 {
     let reader = job.reader;
     let offset = job.offset;

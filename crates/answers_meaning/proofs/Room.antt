@@ -21,7 +21,7 @@ use Rattle.export_text.specs.Layout.{stringLayout}
 use Rattle.answers_jobs.specs.Stream.{tailOf}
 use Rattle.answers_jobs.specs.declared.StreamJob.{StreamJob}
 use Rattle.answers_jobs.specs.declared.StreamTail.{StreamTail}
-use Rattle.answers_meaning.specs.Line.{marked, toldOf, wordsAfter, layoutOf, several, lineTo, lineOf, mostWords, mostBytes}
+use Rattle.answers_meaning.specs.Line.{marked, exportedOf, wordsAfter, layoutOf, several, lineTo, lineOf, mostWords, mostBytes}
 use Rattle.answers_meaning.specs.Text.{refusedText, nameText, wordsText, exportedText, lentText}
 use Rattle.answers_meaning.proofs.Marks.{marks-length}
 
@@ -112,5 +112,5 @@ room job profile behind n h = by (tailOf (job .reader) behind)
         let after = wordsAfter job profile (marked n) in
         let count : length after ≡ n = after-length job profile (marked n) ∙ marks-length 0 n in
         simp length-append
-        (omega (arith, h, count, exported-size (several (job .reader)) (job .reader) (toldOf job profile (marked n) behind index), lent-size (several (job .reader)) after))
+        (omega (arith, h, count, exported-size (several (job .reader)) (job .reader) (exportedOf job profile (marked n) behind index), lent-size (several (job .reader)) after))
     by StreamTail.BadJob = omega arith
