@@ -12,7 +12,7 @@ use borrow.Author.Tests.{lt-ltb, ltb-false, eqb-true, eq-eqb, ne-eqb}
 use Rattle.fields.proofs.Choice.{each}
 use Rattle.fields.specs.Place.{placeOf, countedSize}
 use Rattle.fields.specs.declared.Place.{Place}
-use Rattle.fields.specs.declared.Place.the-variants.{In, Past}
+use Rattle.fields.specs.declared.Place.the-variants.{Past}
 use Rattle.fields.proofs.Located.{past, part-is}
 use Rattle.fields.proofs.Never.{never}
 use Rattle.lut_meaning.specs.Lut.{tagOf, lutOf}
@@ -36,7 +36,7 @@ use Rattle.export_small.specs.Layout.{smallExported, chadLayout, sigLayout, dat
 use Rattle.export_text.specs.Layout.{textExported, stringLayout, descLayout}
 use Rattle.answers_jobs.specs.declared.StreamIndex.{StreamIndex}
 use Rattle.answers_jobs.specs.declared.StreamJob.{StreamJob}
-use Rattle.answers_meaning.specs.Line.{markAt, marked, entryTold, viewTold, lutTold, lutWordsAfter, curveTold, toldOf, wordsAfter, layoutOf, several, lineOf, ToldAndWords, LineAndWords}
+use Rattle.answers_meaning.specs.Line.{markAt, marked, entryExportedAt, viewExported, lutExportedOf, lutWordsAfter, curveExportedOf, exportedOf, wordsAfter, layoutOf, several, lineOf, ExportedAndWords, LineAndWords}
 use Rattle.answers_meaning.specs.Text.{valueWord, absentWord, defaultWord, nameText, wordsText, exportedText, refusedText, lentText}
 use Rattle.answers_meaning.proofs.Marks.{marks-length, mark-is}
 
@@ -57,57 +57,57 @@ module _ (n : ℕ) (l : List ℕ) (e : length l ≡ n) where
 -- ---- what the exported functions tell, with room for the longest layout
 
 module _ (job : StreamJob) (p w b : List ℕ) (index : StreamIndex) {r : ℕ} {out out' : List ℕ} (h : length out ≡ 37) where
-  pub asked-1 : {words' : List ℕ} → job .reader ≡ 1 → GaveWith lutLayout (abmLayout .words) (lutTold job p w Crate) (lutWordsAfter job p w Crate) r out out' w words' → ToldAndWords job p w b index r out out' words'
-  unfolding toldOf layoutOf wordsAfter
+  pub asked-1 : {words' : List ℕ} → job .reader ≡ 1 → GaveWith lutLayout (abmLayout .words) (lutExportedOf job p w Crate) (lutWordsAfter job p w Crate) r out out' w words' → ExportedAndWords job p w b index r out out' words'
+  unfolding exportedOf layoutOf wordsAfter
   asked-1 e g = record { gave = rw e (was-told 37 (omega arith) (g .gave)); words-are = rw e (was-told-slots 37 (omega arith) g) }
 
-  pub asked-11 : {words' : List ℕ} → job .reader ≡ 11 → GaveWith lutLayout (abmLayout .words) (lutTold job p w Book) (lutWordsAfter job p w Book) r out out' w words' → ToldAndWords job p w b index r out out' words'
-  unfolding toldOf layoutOf wordsAfter
+  pub asked-11 : {words' : List ℕ} → job .reader ≡ 11 → GaveWith lutLayout (abmLayout .words) (lutExportedOf job p w Book) (lutWordsAfter job p w Book) r out out' w words' → ExportedAndWords job p w b index r out out' words'
+  unfolding exportedOf layoutOf wordsAfter
   asked-11 e g = record { gave = rw e (was-told 37 (omega arith) (g .gave)); words-are = rw e (was-told-slots 37 (omega arith) g) }
 
-  pub asked-3 : {words' : List ℕ} → job .reader ≡ 3 → GaveWith stringLayout (descLayout .words) (textExported (stringOf p (job .offset) (job .size) (length w))) (Text·slotsAfter p (job .offset) (job .size) w) r out out' w words' → ToldAndWords job p w b index r out out' words'
-  unfolding toldOf layoutOf wordsAfter
+  pub asked-3 : {words' : List ℕ} → job .reader ≡ 3 → GaveWith stringLayout (descLayout .words) (textExported (stringOf p (job .offset) (job .size) (length w))) (Text·slotsAfter p (job .offset) (job .size) w) r out out' w words' → ExportedAndWords job p w b index r out out' words'
+  unfolding exportedOf layoutOf wordsAfter
   asked-3 e g = record { gave = rw e (was-told 6 (omega arith) (g .gave)); words-are = rw e (was-told-slots 6 (omega arith) g) }
 
-  pub asked-2 : job .reader ≡ 2 → Gave (always curveLayout) (within (curveLayout .words) out (curveTold job p w Crate)) r out out' → ToldAndWords job p w b index r out out' w
-  unfolding toldOf layoutOf wordsAfter
+  pub asked-2 : job .reader ≡ 2 → Gave (always curveLayout) (within (curveLayout .words) out (curveExportedOf job p w Crate)) r out out' → ExportedAndWords job p w b index r out out' w
+  unfolding exportedOf layoutOf wordsAfter
   asked-2 e g = record { gave = rw e (was-told 11 (omega arith) g); words-are = rw e }
 
-  pub asked-12 : job .reader ≡ 12 → Gave (always curveLayout) (within (curveLayout .words) out (curveTold job p w Book)) r out out' → ToldAndWords job p w b index r out out' w
-  unfolding toldOf layoutOf wordsAfter
+  pub asked-12 : job .reader ≡ 12 → Gave (always curveLayout) (within (curveLayout .words) out (curveExportedOf job p w Book)) r out out' → ExportedAndWords job p w b index r out out' w
+  unfolding exportedOf layoutOf wordsAfter
   asked-12 e g = record { gave = rw e (was-told 11 (omega arith) g); words-are = rw e }
 
-  pub asked-4 : job .reader ≡ 4 → Gave (always chadLayout) (within (chadLayout .words) out (smallExported (chadOf p (job .offset) (job .size)))) r out out' → ToldAndWords job p w b index r out out' w
-  unfolding toldOf layoutOf wordsAfter
+  pub asked-4 : job .reader ≡ 4 → Gave (always chadLayout) (within (chadLayout .words) out (smallExported (chadOf p (job .offset) (job .size)))) r out out' → ExportedAndWords job p w b index r out out' w
+  unfolding exportedOf layoutOf wordsAfter
   asked-4 e g = record { gave = rw e (was-told 9 (omega arith) g); words-are = rw e }
 
-  pub asked-5 : job .reader ≡ 5 → Gave (always sigLayout) (within (sigLayout .words) out (smallExported (sigOf p (job .offset) (job .size)))) r out out' → ToldAndWords job p w b index r out out' w
-  unfolding toldOf layoutOf wordsAfter
+  pub asked-5 : job .reader ≡ 5 → Gave (always sigLayout) (within (sigLayout .words) out (smallExported (sigOf p (job .offset) (job .size)))) r out out' → ExportedAndWords job p w b index r out out' w
+  unfolding exportedOf layoutOf wordsAfter
   asked-5 e g = record { gave = rw e (was-told 1 (omega arith) g); words-are = rw e }
 
-  pub asked-6 : job .reader ≡ 6 → Gave (always dateLayout) (within (dateLayout .words) out (smallExported (dateOf p (job .offset) (job .size)))) r out out' → ToldAndWords job p w b index r out out' w
-  unfolding toldOf layoutOf wordsAfter
+  pub asked-6 : job .reader ≡ 6 → Gave (always dateLayout) (within (dateLayout .words) out (smallExported (dateOf p (job .offset) (job .size)))) r out out' → ExportedAndWords job p w b index r out out' w
+  unfolding exportedOf layoutOf wordsAfter
   asked-6 e g = record { gave = rw e (was-told 12 (omega arith) g); words-are = rw e }
 
-  pub asked-7 : job .reader ≡ 7 → Gave (always measLayout) (within (measLayout .words) out (smallExported (measOf p (job .offset) (job .size)))) r out out' → ToldAndWords job p w b index r out out' w
-  unfolding toldOf layoutOf wordsAfter
+  pub asked-7 : job .reader ≡ 7 → Gave (always measLayout) (within (measLayout .words) out (smallExported (measOf p (job .offset) (job .size)))) r out out' → ExportedAndWords job p w b index r out out' w
+  unfolding exportedOf layoutOf wordsAfter
   asked-7 e g = record { gave = rw e (was-told 7 (omega arith) g); words-are = rw e }
 
-  pub asked-8 : job .reader ≡ 8 → Gave (always viewLayout) (within (viewLayout .words) out (smallExported (viewOf p (job .offset) (job .size)))) r out out' → ToldAndWords job p w b index r out out' w
-  unfolding toldOf layoutOf wordsAfter
+  pub asked-8 : job .reader ≡ 8 → Gave (always viewLayout) (within (viewLayout .words) out (smallExported (viewOf p (job .offset) (job .size)))) r out out' → ExportedAndWords job p w b index r out out' w
+  unfolding exportedOf layoutOf wordsAfter
   asked-8 e g = record { gave = rw e (was-told 7 (omega arith) g); words-are = rw e }
 
-  pub asked-9 : job .reader ≡ 9 → Gave (always xyzLayout) (within (xyzLayout .words) out (smallExported (xyzOf p (job .offset) (job .size)))) r out out' → ToldAndWords job p w b index r out out' w
-  unfolding toldOf layoutOf wordsAfter
+  pub asked-9 : job .reader ≡ 9 → Gave (always xyzLayout) (within (xyzLayout .words) out (smallExported (xyzOf p (job .offset) (job .size)))) r out out' → ExportedAndWords job p w b index r out out' w
+  unfolding exportedOf layoutOf wordsAfter
   asked-9 e g = record { gave = rw e (was-told 3 (omega arith) g); words-are = rw e }
 
-  pub asked-10 : job .reader ≡ 10 → Gave (always cicpLayout) (within (cicpLayout .words) out (smallExported (cicpOf p (job .offset) (job .size)))) r out out' → ToldAndWords job p w b index r out out' w
-  unfolding toldOf layoutOf wordsAfter
+  pub asked-10 : job .reader ≡ 10 → Gave (always cicpLayout) (within (cicpLayout .words) out (smallExported (cicpOf p (job .offset) (job .size)))) r out out' → ExportedAndWords job p w b index r out out' w
+  unfolding exportedOf layoutOf wordsAfter
   asked-10 e g = record { gave = rw e (was-told 4 (omega arith) g); words-are = rw e }
 
 -- another reader tells of an absence
-pub asked-none : (job : StreamJob) (p w b : List ℕ) (index : StreamIndex) (out : List ℕ) → (job .reader ≡ 1 → ⊥) → (job .reader ≡ 2 → ⊥) → (job .reader ≡ 3 → ⊥) → (job .reader ≡ 4 → ⊥) → (job .reader ≡ 5 → ⊥) → (job .reader ≡ 6 → ⊥) → (job .reader ≡ 7 → ⊥) → (job .reader ≡ 8 → ⊥) → (job .reader ≡ 9 → ⊥) → (job .reader ≡ 10 → ⊥) → (job .reader ≡ 11 → ⊥) → (job .reader ≡ 12 → ⊥) → (job .reader ≡ 13 → ⊥) → ToldAndWords job p w b index 100 out out w
-unfolding toldOf layoutOf wordsAfter
+pub asked-none : (job : StreamJob) (p w b : List ℕ) (index : StreamIndex) (out : List ℕ) → (job .reader ≡ 1 → ⊥) → (job .reader ≡ 2 → ⊥) → (job .reader ≡ 3 → ⊥) → (job .reader ≡ 4 → ⊥) → (job .reader ≡ 5 → ⊥) → (job .reader ≡ 6 → ⊥) → (job .reader ≡ 7 → ⊥) → (job .reader ≡ 8 → ⊥) → (job .reader ≡ 9 → ⊥) → (job .reader ≡ 10 → ⊥) → (job .reader ≡ 11 → ⊥) → (job .reader ≡ 12 → ⊥) → (job .reader ≡ 13 → ⊥) → ExportedAndWords job p w b index 100 out out w
+unfolding exportedOf layoutOf wordsAfter
 asked-none job p w b index out n1 n2 n3 n4 n5 n6 n7 n8 n9 n10 n11 n12 n13 =
     record {
       gave = simp (ne-eqb _ _ n1, ne-eqb _ _ n2, ne-eqb _ _ n3, ne-eqb _ _ n4, ne-eqb _ _ n5, ne-eqb _ _ n6, ne-eqb _ _ n7, ne-eqb _ _ n8, ne-eqb _ _ n9, ne-eqb _ _ n10, ne-eqb _ _ n11, ne-eqb _ _ n12, ne-eqb _ _ n13) (no-words 100 100 out refl (λ e. omega arith));
@@ -218,8 +218,8 @@ same-numbers : (a b : List ℕ) → ((i : ℕ) → getD a i 0 ≡ getD b i 0) �
 unfolding numbersIn
 same-numbers a b h = rw (h 0, h 1, h 2, h 17, h 31, h 33)
 
-same-entry : (a b t behind : List ℕ) (index : StreamIndex) → numbersIn a ≡ numbersIn b → entryTold a t behind index ≡ entryTold b t behind index
-unfolding entryTold
+same-entry : (a b t behind : List ℕ) (index : StreamIndex) → numbersIn a ≡ numbersIn b → entryExportedAt a t behind index ≡ entryExportedAt b t behind index
+unfolding entryExportedAt
 same-entry a b t behind (StreamIndex.At n channel) e = rw e
 same-entry a b t behind StreamIndex.TooMany e = refl
 same-entry a b t behind StreamIndex.Nothing e = refl
@@ -239,25 +239,25 @@ tail-room reader b index n channel t f =
     P x = x ≡ StreamTail.Index (StreamIndex.At n channel) → 1 + n ≤ length b
 
 -- the entry by the numbers that the words tell
-pub entry-at : (t b ws : List ℕ) (index : StreamIndex) (n channel : ℕ) (v : TableNumbers) {r : ℕ} {out out' : List ℕ} → length out ≡ 37 → index ≡ StreamIndex.At n channel → v ≡ numbersIn ws → Gave (always entryLayout) (within (entryLayout .words) out (entryExported (entryOf t (tableBy t v) (take ((1 + n) - 1) (drop 1 b)) channel))) r out out' → Gave (always entryLayout) (entryTold ws t b index) r out out'
-unfolding entryTold
+pub entry-at : (t b ws : List ℕ) (index : StreamIndex) (n channel : ℕ) (v : TableNumbers) {r : ℕ} {out out' : List ℕ} → length out ≡ 37 → index ≡ StreamIndex.At n channel → v ≡ numbersIn ws → Gave (always entryLayout) (within (entryLayout .words) out (entryExported (entryOf t (tableBy t v) (take ((1 + n) - 1) (drop 1 b)) channel))) r out out' → Gave (always entryLayout) (entryExportedAt ws t b index) r out out'
+unfolding entryExportedAt
 entry-at t b ws index n channel v h e f g = rw (e, ← f, ← part-is b 1 n) (was-told 1 (omega arith) g)
 
-pub entry-none : (t b ws out : List ℕ) (index : StreamIndex) → index ≡ StreamIndex.Nothing → Gave (always entryLayout) (entryTold ws t b index) 100 out out
-unfolding entryTold
+pub entry-none : (t b ws out : List ℕ) (index : StreamIndex) → index ≡ StreamIndex.Nothing → Gave (always entryLayout) (entryExportedAt ws t b index) 100 out out
+unfolding entryExportedAt
 entry-none t b ws out index e = rw e (no-words 100 100 out refl (λ z. omega arith))
 
-pub entry-many : (t b ws out : List ℕ) (index : StreamIndex) → index ≡ StreamIndex.TooMany → Gave (always entryLayout) (entryTold ws t b index) 100 out out
-unfolding entryTold
+pub entry-many : (t b ws out : List ℕ) (index : StreamIndex) → index ≡ StreamIndex.TooMany → Gave (always entryLayout) (entryExportedAt ws t b index) 100 out out
+unfolding entryExportedAt
 entry-many t b ws out index e = rw e (no-words 100 100 out refl (λ z. omega arith))
 
-module _ (job : StreamJob) (p w b : List ℕ) (index : StreamIndex) {r : ℕ} {table w' : List ℕ} (g : GaveWith lutLayout (abmLayout .words) (lutTold job p w Crate) (lutWordsAfter job p w Crate) r (replicate 37 0) table w w') where
-  told : Gave lutLayout (lutTold job p w Crate) r (replicate 37 0) table
+module _ (job : StreamJob) (p w b : List ℕ) (index : StreamIndex) {r : ℕ} {table w' : List ℕ} (g : GaveWith lutLayout (abmLayout .words) (lutExportedOf job p w Crate) (lutWordsAfter job p w Crate) r (replicate 37 0) table w w') where
+  told : Gave lutLayout (lutExportedOf job p w Crate) r (replicate 37 0) table
   told = was-told 37 (omega arith) (g .gave)
 
   -- no value: its status
   pub view-status : (out : List ℕ) → (r ≡ 0 → ⊥) → ViewAndWords job p w b index r out out w'
-  unfolding viewTold
+  unfolding viewExported
   view-status out n =
       record { gave = rw (← told .status-is, ne-eqb _ _ n) (no-words r r out refl n); words-are = was-told-slots 37 (omega arith) g }
 
@@ -265,21 +265,21 @@ module _ (job : StreamJob) (p w b : List ℕ) (index : StreamIndex) {r : ℕ} {t
   pub view-lost : (place : Place) (end : ℕ) (out : List ℕ) → end ≡ countedSize (job .size) → place ≡ placeOf (length p) (job .offset) end → place ≡ Past → r ≡ 0 → ViewAndWords job p w b index 100 out out w'
   unfolding lutOf
   view-lost place end out c h e z =
-      let k : lutTold job p w Crate .status ≡ 1 = rw (← c, lt-ltb _ _ (past _ _ _ h e)) in
+      let k : lutExportedOf job p w Crate .status ≡ 1 = rw (← c, lt-ltb _ _ (past _ _ _ h e)) in
       absurd (omega (arith, told .status-is, z, k))
 
   -- and then the entry
-  pub view-entry : {s : ℕ} {out out' t : List ℕ} → r ≡ 0 → t ≡ tagOf p (job .offset) (job .size) → Gave (always entryLayout) (entryTold table t b index) s out out' → ViewAndWords job p w b index s out out' w'
-  unfolding viewTold
+  pub view-entry : {s : ℕ} {out out' t : List ℕ} → r ≡ 0 → t ≡ tagOf p (job .offset) (job .size) → Gave (always entryLayout) (entryExportedAt table t b index) s out out' → ViewAndWords job p w b index s out out' w'
+  unfolding viewExported
   view-entry {s} {out} {out'} {t} z e h =
-      let ws : List ℕ = lutTold job p w Crate .words in
-      let status : lutTold job p w Crate .status ≡ 0 = sym (told .status-is) ∙ z in
+      let ws : List ℕ = lutExportedOf job p w Crate .words in
+      let status : lutExportedOf job p w Crate .status ≡ 0 = sym (told .status-is) ∙ z in
       let most : length ws ≤ 37 = omega (arith, told .as-laid-out status, few-lut (getD ws 0 0)) in
       let numbers : numbersIn table ≡ numbersIn ws = rw (told .out-is) (same-numbers _ ws (filled ws most)) in
       record { gave = rw (eq-eqb _ _ status, ← e, ← same-entry table ws t b index numbers) h; words-are = was-told-slots 37 (omega arith) g }
 
-pub asked-13 : (job : StreamJob) (p w b : List ℕ) (index : StreamIndex) {r : ℕ} {out out' words' : List ℕ} → job .reader ≡ 13 → ViewAndWords job p w b index r out out' words' → ToldAndWords job p w b index r out out' words'
-unfolding toldOf layoutOf wordsAfter
+pub asked-13 : (job : StreamJob) (p w b : List ℕ) (index : StreamIndex) {r : ℕ} {out out' words' : List ℕ} → job .reader ≡ 13 → ViewAndWords job p w b index r out out' words' → ExportedAndWords job p w b index r out out' words'
+unfolding exportedOf layoutOf wordsAfter
 asked-13 job p w b index e v = record { gave = rw e (v .gave); words-are = rw e (v .words-are) }
 
 -- ---- a line
@@ -302,10 +302,10 @@ same-text reader e r out g = by (eqb (e .status) 0) refl
     by false z = rw (g .status-is, z)
 
 -- the row keeps its length
-pub told-length : {job : StreamJob} {p w b : List ℕ} {index : StreamIndex} {r : ℕ} {out w' : List ℕ} → ToldAndWords job p w b index r (replicate 37 0) out w' → length out ≡ 37
+pub told-length : {job : StreamJob} {p w b : List ℕ} {index : StreamIndex} {r : ℕ} {out w' : List ℕ} → ExportedAndWords job p w b index r (replicate 37 0) out w' → length out ≡ 37
 told-length {job} {p} {w} {b} {index} a =
     let zeros : List ℕ = replicate 37 0 in
-    ap length (a .gave .out-is) ∙ length-sets zeros 0 (toldOf job p w b index .words)
+    ap length (a .gave .out-is) ∙ length-sets zeros 0 (exportedOf job p w b index .words)
 
 module _ (job : StreamJob) (p b : List ℕ) (n : ℕ) {w : List ℕ} {tail : StreamTail} (m : w ≡ marked n) (t : tail ≡ tailOf (job .reader) b) where
   pub asks : {index : StreamIndex} → tail ≡ StreamTail.Index index → tailOf (job .reader) b ≡ StreamTail.Index index
@@ -315,10 +315,10 @@ module _ (job : StreamJob) (p b : List ℕ) (n : ℕ) {w : List ℕ} {tail : Str
   unfolding lineOf
   no-line k e = record { written = rw (← t, e) (nothing k 0); words-are = rw (← t, e) m }
 
-  pub line-ends : {index : StreamIndex} {r : ℕ} {out w' k l o q : List ℕ} {i j end : ℕ} {shown : Bool} → tail ≡ StreamTail.Index index → ToldAndWords job p w b index r (replicate 37 0) out w' → shown ≡ several (job .reader) → Wrote k l 0 i (exportedText (several (job .reader)) (layoutOf (job .reader)) record { status = r; words = out }) → Wrote l o i j (cond shown (lentText w') []) → Wrote o q j end (0x0a ∷ []) → LineAndWords (lineOf job p b n) k q w' end
+  pub line-ends : {index : StreamIndex} {r : ℕ} {out w' k l o q : List ℕ} {i j end : ℕ} {shown : Bool} → tail ≡ StreamTail.Index index → ExportedAndWords job p w b index r (replicate 37 0) out w' → shown ≡ several (job .reader) → Wrote k l 0 i (exportedText (several (job .reader)) (layoutOf (job .reader)) record { status = r; words = out }) → Wrote l o i j (cond shown (lentText w') []) → Wrote o q j end (0x0a ∷ []) → LineAndWords (lineOf job p b n) k q w' end
   unfolding lineOf
   line-ends {index} {r} {out} e a s u v x =
-      let told = same-text (job .reader) (toldOf job p w b index) r out (a .gave) in
+      let told = same-text (job .reader) (exportedOf job p w b index) r out (a .gave) in
       record {
         written = rw (← t, e, ← m, ← told, ← a .words-are) (joined (joined u (rw s at v)) x);
         words-are = rw (← t, e, ← m) (a .words-are);

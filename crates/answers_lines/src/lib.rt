@@ -10,7 +10,7 @@ use export_words::VALUE;
 use fields::Entry;
 use fields::InTag;
 use fields::Place;
-ghost use Prim.Native.Nat.{_%_, _≤_};
+ghost use Prim.Native.Nat.{_%_};
 ghost use mathlib.Core.Path.{_≡_};
 ghost use mathlib.Core.Bool.{cond};
 ghost use mathlib.Core.List.{[]};
@@ -19,7 +19,7 @@ ghost use Rattle.answers_jobs.specs.Stream.{tailOf};
 ghost use Rattle.lines.specs.Text.{Wrote};
 ghost use Rattle.export_words.specs.Exported.{always, Gave};
 ghost use Rattle.export_lut.specs.Layout.{entryLayout};
-ghost use Rattle.answers_meaning.specs.Line.{marked, entryTold, layoutOf, several as Line·several, lineOf, ToldAndWords, LineAndWords};
+ghost use Rattle.answers_meaning.specs.Line.{marked, entryExportedAt, layoutOf, several as Line·several, lineOf, ExportedAndWords, LineAndWords};
 ghost use Rattle.answers_meaning.specs.Text.{nameText, wordsText, exportedText, lentText};
 ghost use Rattle.answers_lines.specs.View.{ViewAndWords};
 
@@ -44,7 +44,7 @@ fn entry(
     out: &mut [u64; 37],
 ) -> u32
     requires { ⌜ tailOf reader (now behind) ≡ StreamTail.Index index ⌝ }
-    ensures { λ r. ⌜ Gave (always entryLayout) (entryTold (now (table .entry)) (now (tag .entry)) (now (behind .entry)) index) r (now (out .entry)) (now (out .exit)) ⌝ }
+    ensures { λ r. ⌜ Gave (always entryLayout) (entryExportedAt (now (table .entry)) (now (tag .entry)) (now (behind .entry)) index) r (now (out .entry)) (now (out .exit)) ⌝ }
 {
     match index {
         StreamIndex::At {
@@ -117,7 +117,7 @@ fn ask(
     out: &mut [u64; 37],
 ) -> u32
     requires { ⌜ tailOf (job .reader) (now behind) ≡ StreamTail.Index index ⌝ }
-    ensures { λ r. ⌜ ToldAndWords job (now (profile .entry)) (now (words .entry)) (now (behind .entry)) index r (now (out .entry)) (now (out .exit)) (now (words .exit)) ⌝ }
+    ensures { λ r. ⌜ ExportedAndWords job (now (profile .entry)) (now (words .entry)) (now (behind .entry)) index r (now (out .entry)) (now (out .exit)) (now (words .exit)) ⌝ }
 {
     let reader = job.reader;
     let offset = job.offset;
@@ -175,22 +175,16 @@ fn several(reader: u8) -> bool
     }
 }
 
-fn low_byte(word: u64) -> u8
-    ensures { λ r. ⌜ r ≡ word % 256 ⌝ }
-{
-    (word % 256) as u8
-}
-
 // Puts the name of a type: the letters of its signature behind a space, a trailing space left out.
 fn put_name(line: &mut [u8], at: usize, signature: u64) -> usize
     ensures { λ r. ⌜ Wrote (now (line .entry)) (now (line .exit)) at r (nameText signature) ⌝ }
 {
     let letters = [
         b' ',
-        low_byte(signature / 0x100_0000),
-        low_byte(signature / 0x1_0000),
-        low_byte(signature / 0x100),
-        low_byte(signature),
+        export_words::low_byte(signature / 0x100_0000),
+        export_words::low_byte(signature / 0x1_0000),
+        export_words::low_byte(signature / 0x100),
+        export_words::low_byte(signature),
     ];
     if signature % 256 == 0x20 {
         return lines::put(line, at, &letters[..4]);

@@ -1,3 +1,4 @@
 pub mod Marks
 pub mod Unique
 pub mod Cases
+pub mod Room

@@ -4,7 +4,7 @@ use Prim.Native.Nat.{ℕ, zero, suc, _+_, _≤_, _<_}
 use native.Mathlib.Omega.{arith}
 use mathlib.Core.Path.{_≡_, refl, ap, _∙_}
 use lib.ListN.{length, getD}
-use Rattle.answers_meaning.specs.Line.{markAt, markedFrom, marked}
+use Rattle.answers_meaning.specs.Line.{mostWords, markAt, markedFrom, marked}
 
 pub marks-length : (i n : ℕ) → length (markedFrom i n) ≡ n
 unfolding markedFrom
@@ -19,6 +19,6 @@ mark-is i (suc n) (suc k) h =
     let e : (i + 1) + k ≡ i + suc k = omega arith in
     mark-is (i + 1) n k (omega arith) ∙ ap markAt e
 
--- a job has at most 8,192 words, and word k is marked with k
-pub job-mark : (n k : ℕ) → n ≤ 8192 → k < n → getD (marked n) k 0 ≡ 0xA5A50000 + k
+-- of the words of a job word k is marked with k
+pub job-mark : (n k : ℕ) → n ≤ mostWords → k < n → getD (marked n) k 0 ≡ 0xA5A50000 + k
 job-mark n k h l = let e : markAt (0 + k) ≡ 0xA5A50000 + k = omega arith in mark-is 0 n k l ∙ e

@@ -25,7 +25,14 @@ use Rattle.answers_jobs.specs.declared.StreamJob.{StreamJob}
 use Rattle.answers_jobs.specs.declared.StreamTail.{StreamTail}
 use Rattle.answers_meaning.specs.Text.{exportedText, lentText}
 
--- the words lent, as they are set before a call: word i is 0xA5A50000 + i, and i is below 8,192
+-- a job has at most so many words lent, and a line at most so many bytes: the program's buffer
+abbrev pub mostWords : ℕ
+mostWords = 8192
+
+abbrev pub mostBytes : ℕ
+mostBytes = 196608
+
+-- the words lent, as they are set before a call: word i is 0xA5A50000 + i, and i is below `mostWords`
 abbrev pub markAt : ℕ → ℕ
 markAt i = 0xA5A50000 + i % 0x10000
 
@@ -36,32 +43,32 @@ markedFrom i (suc n) = markAt i ∷ markedFrom (i + 1) n
 abbrev pub marked : ℕ → List ℕ
 marked n = markedFrom 0 n
 
--- what is told of an entry at a grid index, of the table whose words these are; an index of more than sixteen coordinates is nowhere
-unfoldable pub entryTold : List ℕ → List ℕ → List ℕ → StreamIndex → Exported
-entryTold words t behind (StreamIndex.At n channel) = entryExported (entryOf t (tableBy t (numbersIn words)) (take n (drop 1 behind)) channel)
-entryTold words t behind StreamIndex.TooMany = absent
-entryTold words t behind StreamIndex.Nothing = absent
+-- what is exported of an entry at a grid index, of the table whose words these are; an index of more than sixteen coordinates is nowhere
+unfoldable pub entryExportedAt : List ℕ → List ℕ → List ℕ → StreamIndex → Exported
+entryExportedAt words t behind (StreamIndex.At n channel) = entryExported (entryOf t (tableBy t (numbersIn words)) (take n (drop 1 behind)) channel)
+entryExportedAt words t behind StreamIndex.TooMany = absent
+entryExportedAt words t behind StreamIndex.Nothing = absent
 
--- where the reader of the table tells of no value, its status is told
-unfoldable pub viewTold : Exported → List ℕ → List ℕ → StreamIndex → Exported
-viewTold e t behind index = cond (eqb (e .status) 0) (entryTold (e .words) t behind index) (only (e .status))
+-- where the reader of the table has no value, its status alone is exported
+unfoldable pub viewExported : Exported → List ℕ → List ℕ → StreamIndex → Exported
+viewExported e t behind index = cond (eqb (e .status) 0) (entryExportedAt (e .words) t behind index) (only (e .status))
 
 module _ (job : StreamJob) (profile words : List ℕ) where
-  abbrev pub lutTold : Walk → Exported
-  lutTold walk = lutExported (lutOf walk (job .entries) (job .points) profile (job .offset) (job .size) (length words))
+  abbrev pub lutExportedOf : Walk → Exported
+  lutExportedOf walk = lutExported (lutOf walk (job .entries) (job .points) profile (job .offset) (job .size) (length words))
 
   abbrev pub lutWordsAfter : Walk → List ℕ
   lutWordsAfter walk = slotsAfter walk (job .entries) (job .points) profile (job .offset) (job .size) words
 
-  abbrev pub curveTold : Walk → Exported
-  curveTold walk = curveExported (trcOf walk (job .entries) profile (job .offset) (job .size))
+  abbrev pub curveExportedOf : Walk → Exported
+  curveExportedOf walk = curveExported (trcOf walk (job .entries) profile (job .offset) (job .size))
 
   -- what the reader that a job names tells of it
-  unfoldable pub toldOf : List ℕ → StreamIndex → Exported
-  toldOf behind index =
+  unfoldable pub exportedOf : List ℕ → StreamIndex → Exported
+  exportedOf behind index =
       let r = job .reader in
-      cond (eqb r 1) (lutTold Crate) (
-      cond (eqb r 2) (curveTold Crate) (
+      cond (eqb r 1) (lutExportedOf Crate) (
+      cond (eqb r 2) (curveExportedOf Crate) (
       cond (eqb r 3) (textExported (stringOf profile (job .offset) (job .size) (length words))) (
       cond (eqb r 4) (smallExported (chadOf profile (job .offset) (job .size))) (
       cond (eqb r 5) (smallExported (sigOf profile (job .offset) (job .size))) (
@@ -70,9 +77,9 @@ module _ (job : StreamJob) (profile words : List ℕ) where
       cond (eqb r 8) (smallExported (viewOf profile (job .offset) (job .size))) (
       cond (eqb r 9) (smallExported (xyzOf profile (job .offset) (job .size))) (
       cond (eqb r 10) (smallExported (cicpOf profile (job .offset) (job .size))) (
-      cond (eqb r 11) (lutTold Book) (
-      cond (eqb r 12) (curveTold Book) (
-      cond (eqb r 13) (viewTold (lutTold Crate) (tagOf profile (job .offset) (job .size)) behind index) absent))))))))))))
+      cond (eqb r 11) (lutExportedOf Book) (
+      cond (eqb r 12) (curveExportedOf Book) (
+      cond (eqb r 13) (viewExported (lutExportedOf Crate) (tagOf profile (job .offset) (job .size)) behind index) absent))))))))))))
 
   -- the lent words after the call: the readers of lookup tables and of text write there
   unfoldable pub wordsAfter : List ℕ
@@ -110,7 +117,7 @@ lineTo (StreamTail.Index index) job profile words behind =
     let after = wordsAfter job profile words in
     record {
       text =
-          exportedText (several (job .reader)) (layoutOf (job .reader)) (toldOf job profile words behind index)
+          exportedText (several (job .reader)) (layoutOf (job .reader)) (exportedOf job profile words behind index)
           ++ cond (several (job .reader)) (lentText after) []
           ++ (0x0a ∷ []);
       wordsAfter = after;
@@ -122,8 +129,8 @@ unfoldable pub lineOf : StreamJob → List ℕ → List ℕ → ℕ → Line
 lineOf job profile behind n = lineTo (tailOf (job .reader) behind) job profile (marked n) behind
 
 -- what the reader's exported function tells, in `out`, and the words after the call
-pub record ToldAndWords (job : StreamJob) (profile words behind : List ℕ) (index : StreamIndex) (r : ℕ) (out out' words' : List ℕ) : Type 0 where
-  pub gave : Gave (layoutOf (job .reader)) (toldOf job profile words behind index) r out out'
+pub record ExportedAndWords (job : StreamJob) (profile words behind : List ℕ) (index : StreamIndex) (r : ℕ) (out out' words' : List ℕ) : Type 0 where
+  pub gave : Gave (layoutOf (job .reader)) (exportedOf job profile words behind index) r out out'
   pub words-are : words' ≡ wordsAfter job profile words
 
 -- what is written, and the words after the call

@@ -6,5 +6,6 @@ pub mod Inside
 pub mod More
 pub mod Refuses
 pub mod Last
+pub mod Slots
 pub mod Conforms
 pub mod Cases

@@ -8,4 +8,5 @@ pub mod Proper
 pub mod Inside
 pub mod More
 pub mod Last
+pub mod Slots
 pub mod Cases
