@@ -1,5 +1,5 @@
--- The results of a reader and their numbers stand for each other. So one call has one answer: a result is determined by its numbers, and those by
--- the meaning. A refusal has the number of one, and every meaning is the numbers of a result.
+-- The results of a reader and their numbers stand for each other. So one call has one answer: a result is determined by its numbers, and
+-- those by the meaning. A refusal has the number of one, and what the meaning answers is the numbers of a result.
 -- Assumes nothing.
 use Prim.Native.Nat.{ℕ, _+_}
 use mathlib.Core.Path.{_≡_, refl, sym, ap, _∙_}
