@@ -8,16 +8,12 @@ use Rattle.fields.specs.declared.Refusal.{Refusal}
 use Rattle.curve_meaning.specs.declared.CurveAnswer.{CurveAnswer}
 use Rattle.lut_meaning.specs.Answer.{State, mft, abm, absent as State·absent, refused as State·refused, stateFrom, slotsWith as Lut·slotsWith}
 use Rattle.lut_meaning.specs.declared.LutAnswer.{LutAnswer}
-use Rattle.small_meaning.specs.declared.ChadAnswer.{ChadAnswer}
-use Rattle.small_meaning.specs.declared.CicpAnswer.{CicpAnswer}
-use Rattle.small_meaning.specs.declared.DateAnswer.{DateAnswer}
-use Rattle.small_meaning.specs.declared.MeasAnswer.{MeasAnswer}
-use Rattle.small_meaning.specs.declared.SigAnswer.{SigAnswer}
-use Rattle.small_meaning.specs.declared.ViewAnswer.{ViewAnswer}
-use Rattle.small_meaning.specs.declared.XyzAnswer.{XyzAnswer}
+use Rattle.small_meaning.specs.Answer.{Answer as Small·Answer}
+use Rattle.small_meaning.specs.Readers.{smallNumbers}
+use Rattle.small_meaning.proofs.Unique.{small-numbered}
 use Rattle.text_meaning.specs.Answer.{Answer as Text·Answer, slotsWith as Text·slotsWith}
 use Rattle.text_meaning.specs.declared.TextAnswer.{TextAnswer}
-use Rattle.demands.specs.Readers.{Small, chad, sig, date, meas, view, xyz, cicp, Reader, lut, trc, string, small, Call, SmallResult, smallNumbers, Result, numbers, meaning, slotsAfter, Outcome, value, default, absent, refused, outcome, lutOutcome, smallOutcome, textOutcome, Library, ends, Promised}
+use Rattle.demands.specs.Readers.{Reader, lut, trc, string, small, Call, Result, numbers, meaning, slotsAfter, Outcome, value, default, absent, refused, outcome, lutOutcome, smallOutcome, textOutcome, Library, ends, Promised}
 
 -- ---- numbers of refusals
 
@@ -30,29 +26,6 @@ Numbered value = Unit
 Numbered default = Unit
 Numbered absent = Unit
 Numbered (refused n) = IsRefusal n
-
-small-numbered : (s : Small) (x : SmallResult s) → Numbered (smallOutcome (smallNumbers s x))
-small-numbered chad (ChadAnswer.Value m) = tt
-small-numbered chad ChadAnswer.Absent = tt
-small-numbered chad (ChadAnswer.Refused why) = numbered-so why
-small-numbered sig (SigAnswer.Value s) = tt
-small-numbered sig SigAnswer.Absent = tt
-small-numbered sig (SigAnswer.Refused why) = numbered-so why
-small-numbered date (DateAnswer.Value d) = tt
-small-numbered date DateAnswer.Absent = tt
-small-numbered date (DateAnswer.Refused why) = numbered-so why
-small-numbered meas (MeasAnswer.Value m) = tt
-small-numbered meas MeasAnswer.Absent = tt
-small-numbered meas (MeasAnswer.Refused why) = numbered-so why
-small-numbered view (ViewAnswer.Value v) = tt
-small-numbered view ViewAnswer.Absent = tt
-small-numbered view (ViewAnswer.Refused why) = numbered-so why
-small-numbered xyz (XyzAnswer.Value n) = tt
-small-numbered xyz XyzAnswer.Default = tt
-small-numbered xyz (XyzAnswer.Refused why) = numbered-so why
-small-numbered cicp (CicpAnswer.Value n) = tt
-small-numbered cicp CicpAnswer.Absent = tt
-small-numbered cicp (CicpAnswer.Refused why) = numbered-so why
 
 result-numbered : (r : Reader) (x : Result r) → Numbered (outcome r (numbers r x))
 result-numbered (lut walk) x = by (x .answer)
@@ -70,7 +43,13 @@ result-numbered string (TextAnswer.Desc d) = tt
 result-numbered string (TextAnswer.Mluc n) = tt
 result-numbered string TextAnswer.Absent = tt
 result-numbered string (TextAnswer.Refused why) = numbered-so why
-result-numbered (small s) x = small-numbered s x
+result-numbered (small s) x = by (smallNumbers s x) (small-numbered s x)
+  where
+    by : (a : Small·Answer) → ((n : ℕ) → a ≡ Small·Answer.refused n → IsRefusal n) → Numbered (smallOutcome a)
+    by (Small·Answer.value ns) h = tt
+    by Small·Answer.default h = tt
+    by Small·Answer.absent h = tt
+    by (Small·Answer.refused n) h = h n refl
 
 pub numbered : (l : Library) (r : Reader) (c : Call) (n : ℕ) → ends l r c ≡ refused n → IsRefusal n
 numbered l r c n e = subst Numbered e (result-numbered r (l .returns r c))

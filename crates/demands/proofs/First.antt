@@ -24,9 +24,10 @@ use Rattle.text_meaning.specs.Mluc.{even, recordsIn, wordsIn}
 use Rattle.text_meaning.proofs.Found.{Value}
 use Rattle.text_meaning.proofs.Inside.{ReadAt, ValueInside, value-inside}
 use Rattle.small_meaning.specs.Answer.{Answer as Small·Answer}
+use Rattle.small_meaning.specs.Readers.{Small, chad, sig, date, meas, view, xyz, cicp, smallOf}
 use Rattle.small_meaning.proofs.Zone.{chad-alone, sig-alone, view-alone, xyz-alone, cicp-alone, meas-alone, date-alone}
 use Rattle.small_meaning.proofs.Inside.{chad-inside, sig-inside, view-inside, xyz-inside, cicp-inside, meas-inside, date-inside}
-use Rattle.demands.specs.Readers.{Small, chad, sig, date, meas, view, xyz, cicp, lut, trc, string, small, Call, smallOf, meaning, slotsAfter, value, smallOutcome, Library, ends, Promised, answered}
+use Rattle.demands.specs.Readers.{lut, trc, string, small, Call, meaning, slotsAfter, value, smallOutcome, Library, ends, Promised, answered}
 use Rattle.demands.specs.Demands.{tag, curveTag, ElementInside, curveAt, recordIn, CurveInside, NoMatrix, MatrixThere, NoGrid, GridThere, AbmInside, MftInside, LocalizedInside, TextInside, FieldsInside, SameFields, onProfile, Demand1}
 use Rattle.demands.proofs.Ends.{Spares, numbered, ends-so, leaves-spared}
 

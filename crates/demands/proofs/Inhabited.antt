@@ -7,8 +7,8 @@ use mathlib.Core.List.{List}
 use lib.Dec.{ltb, eqb}
 use lib.ListN.{length}
 use Rattle.fields.specs.Checked.{Checked, good, bad}
-use Rattle.fields.specs.Bytes.{u32At, bytesAt, wordsAt}
-use Rattle.fields.specs.Place.{tagAt, countedSize, countedTag}
+use Rattle.fields.specs.Bytes.{u32At}
+use Rattle.fields.specs.Place.{countedSize, countedTag}
 use Rattle.fields.specs.Refusals.{refusalNumber}
 use Rattle.fields.specs.House.{tagSize}
 use Rattle.fields.specs.Tag.{signatureOf}
@@ -37,16 +37,12 @@ use Rattle.text_meaning.specs.Layout.{asciiEnd}
 use Rattle.text_meaning.specs.Mluc.{RecordsEnd as Mluc·RecordsEnd, whole as Mluc·whole, stopped as Mluc·stopped, header, string as string-fault, recordsIn, recordsAsked, textRecordWords as textWords}
 use Rattle.text_meaning.specs.Text.{stringOf, byType as Text·byType, textOf, mlucOf, descOf, endedBy, slottedOf}
 use Rattle.text_meaning.proofs.Unique.{resultTo as Text·resultTo}
-use Rattle.small_meaning.specs.Answer.{Answer as Small·Answer}
-use Rattle.small_meaning.specs.Layout.{nineNumbers, signatureIn, dateBytes, measurement, conditions, firstXyz, codePoints}
-use Rattle.small_meaning.specs.Small.{windowOf, tripleOf}
+use Rattle.small_meaning.proofs.Unique.{small-shown}
 use Rattle.lut_view_meaning.specs.Answer.{Answer, inNumbers as View·inNumbers, resultFrom as View·resultFrom}
-use Rattle.small_meaning.proofs.Last.{chad-each}
-use Rattle.small_meaning.proofs.Order.{order-each}
 use Rattle.lut_view_meaning.specs.View.{tableBy, entryOf}
-use Rattle.demands.specs.Readers.{Small, chad, sig, date, meas, view, xyz, cicp, Reader, lut, trc, string, small, Call, smallNumbers, smallOf, numbers, meaning, Promised}
+use Rattle.demands.specs.Readers.{Reader, lut, trc, string, small, Call, numbers, meaning, Promised}
 use Rattle.demands.specs.Demands.{Demand1, Demand2, Demand3}
-use Rattle.demands.specs.Kept.{smallResult, result, kept}
+use Rattle.demands.specs.Kept.{result, kept}
 use Rattle.demands.proofs.First.{demand1}
 use Rattle.demands.proofs.Second.{demand2}
 use Rattle.demands.proofs.Third.{demand3}
@@ -54,23 +50,6 @@ use Rattle.demands.proofs.Third.{demand3}
 -- the number of a refusal, by the name that it has
 abbrev Known : ℕ → Type 0
 Known n = refusalNumber (nameOf n) ≡ n
-
--- ---- the small readers
-
--- the result of an answer has its numbers
-Shown : Small → Small·Answer → Type 0
-Shown s a = smallNumbers s (smallResult s a) ≡ a
-
-small-shown : (s : Small) (p : List ℕ) (at size : ℕ) → Shown s (smallOf s p at size)
-unfolding Shown nineNumbers signatureIn dateBytes measurement conditions firstXyz codePoints windowOf tripleOf wordsAt bytesAt
-small-shown chad p at size = chad-each (Shown chad) refl refl refl (λ t. refl) p at size
-small-shown sig p at size = order-each (Shown sig) _ refl refl refl refl
-small-shown date p at size = order-each (Shown date) _ refl refl refl refl
-small-shown meas p at size = order-each (Shown meas) _ refl refl refl (each (Shown meas) (ltb (length p) (at + 36)) _ _ (λ _. refl) (λ _. refl))
-small-shown view p at size = order-each (Shown view) _ refl refl refl refl
-small-shown xyz p at size =
-    order-each (Shown xyz) _ refl refl refl (each (Shown xyz) (ltb (length (tagAt p at size)) 20) _ _ (λ _. refl) (λ _. refl))
-small-shown cicp p at size = order-each (Shown cicp) _ refl refl refl refl
 
 -- ---- the tone curve
 
@@ -161,7 +140,6 @@ text-shown p at size words =
 -- ---- the promise is kept
 
 shown : (r : Reader) (c : Call) → numbers r (result r (meaning r c)) ≡ meaning r c
-unfolding Shown
 shown (lut walk) c = lut-shown _ (lut-stands walk (c .entries) (c .points) (c .profile) (c .entry) (c .size) (length (c .slots)))
 shown (trc walk) c = trc-shown walk (c .entries) (c .profile) (c .entry) (c .size)
 shown string c = text-shown (c .profile) (c .entry) (c .size) (length (c .slots))

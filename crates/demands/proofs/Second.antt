@@ -19,10 +19,10 @@ use Rattle.lut_meaning.specs.Answer.{mft, abm, Abm, State, Answer as Lut·Answe
 use Rattle.lut_meaning.specs.Standard.{answerTold, PartsAs, TagAs, PassesBy}
 use Rattle.lut_meaning.proofs.Conforms.{profile-read, profile-slots, profile-parts, profile-written, profile-counts, profile-read16, profile-read8, profile-written-mft}
 use Rattle.lut_meaning.proofs.Unique.{unique as lut-unique}
-use Rattle.small_meaning.specs.Answer.{Answer as Small·Answer}
+use Rattle.small_meaning.specs.Readers.{Small, chad, sig, date, meas, view, xyz, cicp, smallOf}
 use Rattle.small_meaning.specs.Standard.{signatureTold, someXyzType, firstTold, measurementTold, viewTold, cicpTold, WrittenRead, ReadWritten}
 use Rattle.small_meaning.proofs.Conforms as Small·Conforms
-use Rattle.small_meaning.proofs.Unique.{chad-unique, sig-unique, date-unique, meas-unique, view-unique, xyz-unique, cicp-unique}
+use Rattle.small_meaning.proofs.Unique.{small-unique}
 use Rattle.lut_view_meaning.specs.Standard.{ShowsColours, ShowsClut}
 use Rattle.lut_view_meaning.specs.View.{numbersOf, tableBy, entryOf}
 use Rattle.lut_view_meaning.specs.declared.TableNumbers.{TableNumbers}
@@ -32,19 +32,10 @@ use Rattle.lut_view_meaning.proofs.Shows.{Shows as View·Shows, abm-shows, mft-
 use Rattle.text_meaning.specs.Standard.{ReadLocalized}
 use Rattle.text_meaning.proofs.Conforms as Text
 use Rattle.text_meaning.proofs.Unique.{unique as text-unique}
-use Rattle.demands.specs.Readers.{Small, chad, sig, date, meas, view, xyz, cicp, Reader, lut, trc, string, small, Call, SmallResult, smallNumbers, smallOf, Result, Numbers, numbers, meaning, Library, Promised, answered}
+use Rattle.demands.specs.Readers.{Reader, lut, trc, string, small, Call, Result, Numbers, numbers, meaning, Library, Promised, answered}
 use Rattle.demands.specs.Demands.{tag, element, ElementInside, reader, shown, Shows, Demand2}
 
 -- ---- one call, one answer: a result is determined by its numbers
-
-small-unique : (s : Small) (a : Small·Answer) (x y : SmallResult s) → smallNumbers s x ≡ a → smallNumbers s y ≡ a → x ≡ y
-small-unique chad = chad-unique
-small-unique sig = sig-unique
-small-unique date = date-unique
-small-unique meas = meas-unique
-small-unique view = view-unique
-small-unique xyz = xyz-unique
-small-unique cicp = cicp-unique
 
 pub unique : (r : Reader) (a : Numbers r) (x y : Result r) → numbers r x ≡ a → numbers r y ≡ a → x ≡ y
 unique (lut walk) = lut-unique

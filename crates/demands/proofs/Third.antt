@@ -24,8 +24,8 @@ use Rattle.lut_meaning.proofs.Found.{IsValue}
 use Rattle.lut_meaning.proofs.Last.{fourteen-behind as lut-fourteen, enough as lut-enough}
 use Rattle.lut_meaning.proofs.More.{Is as Lut·Is, more-bytes as lut-bytes, more-limit as lut-limit, more-points as lut-points, more-slots as lut-slots, value-stays as lut-stays}
 use Rattle.small_meaning.specs.Answer.{Answer as Small·Answer}
-use Rattle.small_meaning.proofs.Last.{chad-not-14, sig-not-14, date-not-14, meas-not-14, view-not-14, xyz-not-14, cicp-not-14}
-use Rattle.small_meaning.proofs.More.{Past, chad-more, sig-more, date-more, meas-more, view-more, xyz-more, cicp-more}
+use Rattle.small_meaning.proofs.Last.{small-not-14}
+use Rattle.small_meaning.proofs.More.{small-more}
 use Rattle.text_meaning.specs.Answer.{Answer as Text·Answer, slotsWith as Text·slotsWith}
 use Rattle.text_meaning.specs.Mluc.{recordsIn, wordsIn}
 use Rattle.text_meaning.proofs.Found.{Value, found}
@@ -33,21 +33,12 @@ use Rattle.text_meaning.proofs.Last.{fourteen-behind as text-fourteen, enough a
 use Rattle.text_meaning.proofs.More.{more-bytes as text-bytes, more-slots as text-slots, value-stays as text-stays}
 use Rattle.text_meaning.proofs.Shared.{words-length}
 use Rattle.text_meaning.proofs.Taken.{Taken, mluc-room, accepted}
-use Rattle.demands.specs.Readers.{Small, chad, sig, date, meas, view, xyz, cicp, Reader, lut, trc, string, small, Call, smallOf, meaning, slotsAfter, Outcome, value, default, absent, refused, outcome, lutOutcome, curveOutcome, smallOutcome, textOutcome, Library, ends, Promised}
+use Rattle.demands.specs.Readers.{Reader, lut, trc, string, small, Call, meaning, slotsAfter, Outcome, value, default, absent, refused, outcome, lutOutcome, curveOutcome, smallOutcome, textOutcome, Library, ends, Promised}
 use Rattle.demands.specs.Demands.{tag, withBytes, withLimits, withSlots, Same, ByBytes, ByLimits, BySlots, wordsAsked, Demand3, withAll}
 use Rattle.demands.proofs.Ends.{Spares, slots-spared, ends-so}
 use Rattle.demands.proofs.Second.{unique}
 
 -- ---- the meanings: what is said stays, or is of the kind that may change
-
-small-grows : (s : Small) (p q : List ℕ) (entry size : ℕ) → Grows Past (smallOf s p entry size) (smallOf s (p ++ q) entry size)
-small-grows chad = chad-more
-small-grows sig = sig-more
-small-grows date = date-more
-small-grows meas = meas-more
-small-grows view = view-more
-small-grows xyz = xyz-more
-small-grows cicp = cicp-more
 
 by-bytes : (r : Reader) (c : Call) (q : List ℕ) → ByBytes r c (outcome r (meaning r c)) ⊎ (meaning r (withBytes q c) ≡ meaning r c)
 by-bytes (lut walk) c q = elim (lut-bytes walk (c .entries) (c .points) (c .profile) q (c .entry) (c .size) (length (c .slots))) [
@@ -63,7 +54,7 @@ by-bytes string c q = elim (text-bytes (c .profile) q (c .entry) (c .size) (leng
   | inl e ↦ inl (inl (ap textOutcome e))
   | inr e ↦ inr e
 ]
-by-bytes (small s) c q = elim (small-grows s (c .profile) q (c .entry) (c .size)) [
+by-bytes (small s) c q = elim (small-more (c .profile) q (c .entry) (c .size) s) [
   | inl e ↦ inl (inl (ap smallOutcome e))
   | inr e ↦ inr e
 ]
@@ -133,15 +124,6 @@ small-refused Small·Answer.default n e = never cc
 small-refused Small·Answer.absent n e = never cc
 small-refused (Small·Answer.refused m) n e = let same : m ≡ n = cc in ap Small·Answer.refused same
 
-small-has-slots : (s : Small) (p : List ℕ) (entry size : ℕ) → smallOf s p entry size ≡ Small·Answer.refused tooFewSlots → ⊥
-small-has-slots chad = chad-not-14
-small-has-slots sig = sig-not-14
-small-has-slots date = date-not-14
-small-has-slots meas = meas-not-14
-small-has-slots view = view-not-14
-small-has-slots xyz = xyz-not-14
-small-has-slots cicp = cicp-not-14
-
 text-refused : (a : Text·Answer) (n : ℕ) → textOutcome a ≡ refused n → a ≡ Text·Answer.refused n
 text-refused (Text·Answer.text s) n e = never cc
 text-refused (Text·Answer.desc s u) n e = never cc
@@ -167,7 +149,7 @@ too-few string c h =
       short = omega (arith, w .few);
       last = λ x room. ap textOutcome (text-enough (c .profile) (c .entry) (c .size) (length (c .slots)) w (length (c .slots ++ x)) (omega (arith, room)));
     }
-too-few (small s) c h = absurd (small-has-slots s (c .profile) (c .entry) (c .size) (small-refused (meaning (small s) c) tooFewSlots h))
+too-few (small s) c h = absurd (small-not-14 s (c .profile) (c .entry) (c .size) (small-refused (meaning (small s) c) tooFewSlots h))
 
 -- ---- the slots
 

@@ -37,12 +37,13 @@ use Rattle.text_meaning.specs.Answer.{Answer as Text·Answer, Span, span, Unico
 use Rattle.text_meaning.specs.Mluc.{recordsAsked, textRecordWords as textWords}
 use Rattle.text_meaning.specs.Standard.{TextTagInside, BeginsText, descriptionTold, BeginsDescription, Asked as MlucAsked, localizedTold, ReadLocalized}
 use Rattle.small_meaning.specs.Answer.{Answer as Small·Answer}
+use Rattle.small_meaning.specs.Readers.{Small, chad, sig, date, meas, view, xyz, cicp}
 use Rattle.small_meaning.specs.Standard.{signatureTold, someXyzType, firstTold, measurementTold, viewTold, cicpTold, WrittenRead, ReadWritten, BeginsNine, BeginsDate}
 use Rattle.lut_view_meaning.specs.Answer.{Answer, inNumbers as View·inNumbers}
 use Rattle.lut_view_meaning.specs.Standard.{ShowsColours, ShowsClut}
 use Rattle.lut_view_meaning.specs.View.{numbersOf, tableBy, storedAt}
 use Rattle.lut_view_meaning.specs.declared.TableNumbers.{TableNumbers}
-use Rattle.demands.specs.Readers.{Small, chad, sig, date, meas, view, xyz, cicp, Reader, lut, trc, string, small, Call, Result, numbers, meaning, Outcome, value, default, absent, refused, Library, ends, Promised, answered}
+use Rattle.demands.specs.Readers.{Reader, lut, trc, string, small, Call, Result, numbers, meaning, Outcome, value, default, absent, refused, Library, ends, Promised, answered}
 
 -- the bytes of the tag in lookup tables and text, where a size of 0 counts as the shortest tag's, and that they lie in the profile
 abbrev pub tag : Call → List ℕ

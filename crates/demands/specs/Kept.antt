@@ -2,23 +2,12 @@
 use Rattle.curve_meaning.proofs.Unique.{resultFrom as Curve·resultFrom}
 use Rattle.lut_meaning.proofs.Unique.{lutTo}
 use Rattle.text_meaning.proofs.Unique.{resultTo as Text·resultTo}
-use Rattle.small_meaning.specs.Answer.{Answer as Small·Answer}
-use Rattle.small_meaning.proofs.Unique.{chadFrom, sigFrom, dateFrom, measFrom, viewFrom, xyzFrom, cicpFrom}
+use Rattle.small_meaning.specs.Readers.{smallResult}
 use Rattle.lut_view_meaning.specs.Answer.{resultFrom as View·resultFrom}
 use Rattle.lut_view_meaning.specs.View.{tableBy, entryOf}
-use Rattle.demands.specs.Readers.{Small, chad, sig, date, meas, view, xyz, cicp, Reader, lut, trc, string, small, SmallResult, Result}
-use Rattle.demands.specs.Readers.{Numbers, meaning, slotsAfter, Library}
+use Rattle.demands.specs.Readers.{Reader, lut, trc, string, small, Result, Numbers, meaning, slotsAfter, Library}
 
 -- the result that stands for an answer
-abbrev pub smallResult : (s : Small) → Small·Answer → SmallResult s
-smallResult chad a = chadFrom a
-smallResult sig a = sigFrom a
-smallResult date a = dateFrom a
-smallResult meas a = measFrom a
-smallResult view a = viewFrom a
-smallResult xyz a = xyzFrom a
-smallResult cicp a = cicpFrom a
-
 abbrev pub result : (r : Reader) → Numbers r → Result r
 result (lut walk) a = lutTo a
 result (trc walk) a = Curve·resultFrom a

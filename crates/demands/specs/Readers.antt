@@ -13,32 +13,14 @@ use Rattle.lut_meaning.specs.declared.Lut.{Lut}
 use Rattle.text_meaning.specs.Answer.{Answer as Text·Answer, inNumbers as Text·inNumbers}
 use Rattle.text_meaning.specs.Text.{stringOf, slotsAfter as Text·slotsAfter}
 use Rattle.text_meaning.specs.declared.TextAnswer.{TextAnswer}
-use Rattle.small_meaning.specs.Answer.{Answer as Small·Answer, chadInNumbers, sigInNumbers, dateInNumbers, measInNumbers, viewInNumbers}
-use Rattle.small_meaning.specs.Answer.{xyzInNumbers, cicpInNumbers}
-use Rattle.small_meaning.specs.Small.{chadOf, sigOf, dateOf, measOf, viewOf, xyzOf, cicpOf}
-use Rattle.small_meaning.specs.declared.ChadAnswer.{ChadAnswer}
-use Rattle.small_meaning.specs.declared.CicpAnswer.{CicpAnswer}
-use Rattle.small_meaning.specs.declared.DateAnswer.{DateAnswer}
-use Rattle.small_meaning.specs.declared.MeasAnswer.{MeasAnswer}
-use Rattle.small_meaning.specs.declared.SigAnswer.{SigAnswer}
-use Rattle.small_meaning.specs.declared.ViewAnswer.{ViewAnswer}
-use Rattle.small_meaning.specs.declared.XyzAnswer.{XyzAnswer}
+use Rattle.small_meaning.specs.Answer.{Answer as Small·Answer}
+use Rattle.small_meaning.specs.Readers.{Small, SmallResult, smallNumbers, smallOf}
 use Rattle.lut_view_meaning.specs.Answer.{inNumbers as View·inNumbers}
 use Rattle.lut_view_meaning.specs.View.{tableBy, entryOf}
 use Rattle.lut_view_meaning.specs.declared.EntryAnswer.{EntryAnswer}
 use Rattle.lut_view_meaning.specs.declared.TableNumbers.{TableNumbers}
 
--- `read_chad_tag`, `read_tech_tag`, `read_date_time_tag`, `read_meas_tag`, `read_viewing_conditions`, `read_xyz_tag`, `read_cicp_tag`
-pub data Small : Type 0 where
-  chad : Small
-  sig : Small
-  date : Small
-  meas : Small
-  view : Small
-  xyz : Small
-  cicp : Small
-
--- `read_lut_tag` and `read_trc_tag`, each on either walk; `read_string_tag`; the seven small ones
+-- `read_lut_tag` and `read_trc_tag`, each on either walk; `read_string_tag`; the small ones, a table of small_meaning/specs/Readers.antt
 pub data Reader : Type 0 where
   lut : Walk → Reader
   trc : Walk → Reader
@@ -60,15 +42,6 @@ call profile entry size entries points slots =
     record { profile = profile; entry = entry; size = size; entries = entries; points = points; slots = slots }
 
 -- what a reader returns
-abbrev pub SmallResult : Small → Type 0
-SmallResult chad = ChadAnswer
-SmallResult sig = SigAnswer
-SmallResult date = DateAnswer
-SmallResult meas = MeasAnswer
-SmallResult view = ViewAnswer
-SmallResult xyz = XyzAnswer
-SmallResult cicp = CicpAnswer
-
 abbrev pub Result : Reader → Type 0
 Result (lut walk) = Lut
 Result (trc walk) = CurveAnswer
@@ -82,15 +55,6 @@ Numbers (trc walk) = Curve·Answer
 Numbers string = Text·Answer
 Numbers (small s) = Small·Answer
 
-abbrev pub smallNumbers : (s : Small) → SmallResult s → Small·Answer
-smallNumbers chad x = chadInNumbers x
-smallNumbers sig x = sigInNumbers x
-smallNumbers date x = dateInNumbers x
-smallNumbers meas x = measInNumbers x
-smallNumbers view x = viewInNumbers x
-smallNumbers xyz x = xyzInNumbers x
-smallNumbers cicp x = cicpInNumbers x
-
 abbrev pub numbers : (r : Reader) → Result r → Numbers r
 numbers (lut walk) x = Lut·inNumbers x
 numbers (trc walk) x = Curve·inNumbers x
@@ -98,15 +62,6 @@ numbers string x = Text·inNumbers x
 numbers (small s) x = smallNumbers s x
 
 -- the numbers that a call is to be answered with
-abbrev pub smallOf : Small → List ℕ → ℕ → ℕ → Small·Answer
-smallOf chad profile entry size = chadOf profile entry size
-smallOf sig profile entry size = sigOf profile entry size
-smallOf date profile entry size = dateOf profile entry size
-smallOf meas profile entry size = measOf profile entry size
-smallOf view profile entry size = viewOf profile entry size
-smallOf xyz profile entry size = xyzOf profile entry size
-smallOf cicp profile entry size = cicpOf profile entry size
-
 abbrev pub meaning : (r : Reader) → Call → Numbers r
 meaning (lut walk) c = lutOf walk (c .entries) (c .points) (c .profile) (c .entry) (c .size) (length (c .slots))
 meaning (trc walk) c = trcOf walk (c .entries) (c .profile) (c .entry) (c .size)

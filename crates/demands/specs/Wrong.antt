@@ -1,5 +1,6 @@
 -- Wrong readers, each made of a library by one fault, and the sentence that they are shut out.
 use Prim.Native.Nat.{ℕ, zero, suc, _*_}
+use mathlib.Core.Bool.{Bool, true, false, cond}
 use mathlib.Core.List.{List, [], _++_}
 use lib.ListN.{take, replicate}
 use Rattle.fields.specs.House.{tagSize}
@@ -12,28 +13,14 @@ use Rattle.lut_run_meaning.specs.Run.{recordsOf}
 use Rattle.lut_meaning.specs.Layout.{recordsNeeded}
 use Rattle.lut_meaning.specs.Parts.{curvesOf}
 use Rattle.lut_meaning.specs.declared.LutAnswer.{LutAnswer}
-use Rattle.small_meaning.specs.declared.ChadAnswer.{ChadAnswer}
-use Rattle.small_meaning.specs.declared.CicpAnswer.{CicpAnswer}
-use Rattle.small_meaning.specs.declared.DateAnswer.{DateAnswer}
-use Rattle.small_meaning.specs.declared.MeasAnswer.{MeasAnswer}
-use Rattle.small_meaning.specs.declared.SigAnswer.{SigAnswer}
-use Rattle.small_meaning.specs.declared.ViewAnswer.{ViewAnswer}
-use Rattle.small_meaning.specs.declared.XyzAnswer.{XyzAnswer}
+use Rattle.small_meaning.specs.Answer.{Answer as Small·Answer}
+use Rattle.small_meaning.specs.Readers.{Small, smallNumbers, smallNone, smallRefusal}
 use Rattle.text_meaning.specs.declared.TextAnswer.{TextAnswer}
-use Rattle.demands.specs.Readers.{Small, chad, sig, date, meas, view, xyz, cicp, Reader, lut, trc, string, small, Call, SmallResult}
+use Rattle.demands.specs.Readers.{Reader, lut, trc, string, small, Call}
 use Rattle.demands.specs.Readers.{Result, slotsAfter, Library, Promised}
 use Rattle.demands.specs.Demands.{tag, inFront, Demand1, Demand2}
 
 -- ---- one that refuses all
-
-abbrev pub smallRefusal : (s : Small) → Refusal → SmallResult s
-smallRefusal chad why = ChadAnswer.Refused why
-smallRefusal sig why = SigAnswer.Refused why
-smallRefusal date why = DateAnswer.Refused why
-smallRefusal meas why = MeasAnswer.Refused why
-smallRefusal view why = ViewAnswer.Refused why
-smallRefusal xyz why = XyzAnswer.Refused why
-smallRefusal cicp why = CicpAnswer.Refused why
 
 abbrev pub refusal : (r : Reader) → Refusal → Result r
 refusal (lut walk) why = record { answer = LutAnswer.Refused why; grid = replicate 16 0; matrix = replicate 9 0; bias = replicate 3 0 }
@@ -46,17 +33,21 @@ refusesAll l = record { returns = λ r c. refusal r PastProfile; leaves = λ r c
 
 -- ---- one that always answers the default, and one that always answers the identity
 
+abbrev pub isDefault : Small·Answer → Bool
+isDefault (Small·Answer.value ns) = false
+isDefault Small·Answer.default = true
+isDefault Small·Answer.absent = false
+isDefault (Small·Answer.refused n) = false
+
+-- a small reader has a default if that is what it returns besides values and refusals
+abbrev pub hasDefault : Small → Bool
+hasDefault s = isDefault (smallNumbers s (smallNone s))
+
 abbrev pub defaultInstead : (r : Reader) → Result r → Result r
 defaultInstead (lut walk) x = x
 defaultInstead (trc walk) x = x
 defaultInstead string x = x
-defaultInstead (small chad) x = x
-defaultInstead (small sig) x = x
-defaultInstead (small date) x = x
-defaultInstead (small meas) x = x
-defaultInstead (small view) x = x
-defaultInstead (small xyz) x = XyzAnswer.Default
-defaultInstead (small cicp) x = x
+defaultInstead (small s) x = cond (hasDefault s) (smallNone s) x
 
 abbrev pub alwaysDefault : Library → Library
 alwaysDefault l = record { returns = λ r c. defaultInstead r (l .returns r c); leaves = l .leaves; reads = l .reads }

@@ -17,7 +17,8 @@ use small_meaning::XyzAnswer;
 use text::TextAnswer;
 ghost use Prim.Native.Nat.{ℕ};
 ghost use mathlib.Core.List.{List};
-ghost use Rattle.demands.specs.Readers.{chad, sig, date, meas, view, xyz, cicp, lut, trc, string, small, call, Keeps, Reads};
+ghost use Rattle.small_meaning.specs.Readers.{chad, sig, date, meas, view, xyz, cicp};
+ghost use Rattle.demands.specs.Readers.{lut, trc, string, small, call, Keeps, Reads};
 
 pub fn lut_tag(
     profile: &[u8],

@@ -15,7 +15,8 @@ use Rattle.fields.proofs.Choice.{each}
 use Rattle.small_meaning.specs.Answer.{Answer, value, default, absent, refused}
 use Rattle.small_meaning.specs.Layout.{nineNumbers}
 use Rattle.small_meaning.specs.Order.{answerTo}
-use Rattle.small_meaning.specs.Small.{chadMatrixOf, chadOf, sigOf, dateOf, windowOf, measOf, viewOf, tripleOf, xyzOf, cicpOf}
+use Rattle.small_meaning.specs.Readers.{Small, chad, sig, date, meas, view, xyz, cicp, smallOf}
+use Rattle.small_meaning.specs.Small.{chadMatrixOf, chadOf, windowOf, tripleOf}
 use Rattle.small_meaning.specs.declared.Found.{Found}
 use Rattle.small_meaning.proofs.Order.{order-each}
 
@@ -50,26 +51,14 @@ chad-each P past bad none is p entry size =
     (λ _. each P (eqb (length (tagAt p entry size)) 44) _ _ (λ _. is _) (λ _. bad)) (λ _. bad))
     (λ _. none))))
 
-module _ (p : List ℕ) (entry size : ℕ) where
-  pub chad-not-14 : Not14 (chadOf p entry size)
-  chad-not-14 = chad-each Not14 (other (λ e. omega arith)) (other (λ e. omega arith)) none (λ t. valued) p entry size
-
-  pub sig-not-14 : Not14 (sigOf p entry size)
-  sig-not-14 = ordered _ (other (λ e. omega arith)) none valued
-
-  pub date-not-14 : Not14 (dateOf p entry size)
-  date-not-14 = ordered _ none none valued
-
-  pub meas-not-14 : Not14 (measOf p entry size)
-  unfolding windowOf
-  meas-not-14 = ordered _ none none (each Not14 (ltb (length p) (entry + 36)) _ _ (λ _. other (λ e. omega arith)) (λ _. valued))
-
-  pub view-not-14 : Not14 (viewOf p entry size)
-  view-not-14 = ordered _ none none valued
-
-  pub xyz-not-14 : Not14 (xyzOf p entry size)
-  unfolding tripleOf
-  xyz-not-14 = ordered _ standard standard (each Not14 (ltb (length (tagAt p entry size)) 20) _ _ (λ _. other (λ e. omega arith)) (λ _. valued))
-
-  pub cicp-not-14 : Not14 (cicpOf p entry size)
-  cicp-not-14 = ordered _ none none valued
+pub small-not-14 : (s : Small) (p : List ℕ) (entry size : ℕ) → Not14 (smallOf s p entry size)
+unfolding windowOf tripleOf
+small-not-14 chad p entry size = chad-each Not14 (other (λ e. omega arith)) (other (λ e. omega arith)) none (λ t. valued) p entry size
+small-not-14 sig p entry size = ordered _ (other (λ e. omega arith)) none valued
+small-not-14 date p entry size = ordered _ none none valued
+small-not-14 meas p entry size =
+    ordered _ none none (each Not14 (ltb (length p) (entry + 36)) _ _ (λ _. other (λ e. omega arith)) (λ _. valued))
+small-not-14 view p entry size = ordered _ none none valued
+small-not-14 xyz p entry size =
+    ordered _ standard standard (each Not14 (ltb (length (tagAt p entry size)) 20) _ _ (λ _. other (λ e. omega arith)) (λ _. valued))
+small-not-14 cicp p entry size = ordered _ none none valued

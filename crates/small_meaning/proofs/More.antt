@@ -16,7 +16,8 @@ use Rattle.fields.proofs.Grow.{Grows, choose, passes}
 use Rattle.small_meaning.specs.Answer.{Answer, value, absent, refused}
 use Rattle.small_meaning.specs.Layout.{signatureIn, dateBytes, conditions, codePoints}
 use Rattle.small_meaning.specs.Order.{foundOf, answerTo}
-use Rattle.small_meaning.specs.Small.{chadOf, sigOf, dateOf, windowOf, measOf, viewOf, tripleOf, xyzOf, cicpOf}
+use Rattle.small_meaning.specs.Readers.{Small, chad, sig, date, meas, view, xyz, cicp, smallOf}
+use Rattle.small_meaning.specs.Small.{chadOf, windowOf, tripleOf}
 use Rattle.small_meaning.specs.declared.Found.{Found}
 use Rattle.small_meaning.proofs.Order.{tagged}
 
@@ -57,34 +58,21 @@ module _ (p q : List ℕ) (entry size : ℕ) where
 
   -- ---- each reader
 
-  pub chad-more : Grows Past (chadOf p entry size) (chadOf (p ++ q) entry size)
-  unfolding chadOf
-  chad-more =
+  pub small-more : (s : Small) → Grows Past (smallOf s p entry size) (smallOf s (p ++ q) entry size)
+  unfolding chadOf windowOf
+  small-more chad =
       passes Past (ltb (length p) (entry + size)) (ltb (length (p ++ q)) (entry + size)) (longer p q (entry + size)) refl
       (λ e. passes Past (ltb (length p) (entry + 8)) (ltb (length (p ++ q)) (entry + 8)) (longer p q (entry + 8)) refl
       (λ _. rw (part-append p q entry size (ltb-false (length p) (entry + size) e)) (inr refl)))
-
-  pub sig-more : Grows Past (sigOf p entry size) (sigOf (p ++ q) entry size)
-  sig-more = tag-more _ _ _ _ _ (λ (t : List ℕ). value (signatureIn t))
-
-  pub date-more : Grows Past (dateOf p entry size) (dateOf (p ++ q) entry size)
-  date-more = order-more 20 size (signatureOf Dtim) absent absent _ _ (λ l f. inr (ap (λ (t : List ℕ). value (dateBytes t)) (part-append p q 0 20 (omega arith))))
-
-  pub meas-more : Grows Past (measOf p entry size) (measOf (p ++ q) entry size)
-  unfolding windowOf
-  meas-more =
+  small-more sig = tag-more _ _ _ _ _ (λ (t : List ℕ). value (signatureIn t))
+  small-more date = order-more 20 size (signatureOf Dtim) absent absent _ _ (λ l f. inr (ap (λ (t : List ℕ). value (dateBytes t)) (part-append p q 0 20 (omega arith))))
+  small-more meas =
       order-more _ _ _ _ _ _ _
       (λ _ _. passes Past (ltb (length p) (entry + 36)) (ltb (length (p ++ q)) (entry + 36)) (longer p q (entry + 36)) refl
       (λ e. rw (part-append p q entry 36 (ltb-false (length p) (entry + 36) e)) (inr refl)))
-
-  pub view-more : Grows Past (viewOf p entry size) (viewOf (p ++ q) entry size)
-  view-more = tag-more _ _ _ _ _ (λ (t : List ℕ). value (conditions t))
-
-  pub xyz-more : Grows Past (xyzOf p entry size) (xyzOf (p ++ q) entry size)
-  xyz-more = tag-more _ _ _ _ _ tripleOf
-
-  pub cicp-more : Grows Past (cicpOf p entry size) (cicpOf (p ++ q) entry size)
-  cicp-more = tag-more _ _ _ _ _ (λ (t : List ℕ). value (codePoints t))
+  small-more view = tag-more _ _ _ _ _ (λ (t : List ℕ). value (conditions t))
+  small-more xyz = tag-more _ _ _ _ _ tripleOf
+  small-more cicp = tag-more _ _ _ _ _ (λ (t : List ℕ). value (codePoints t))
 
 -- so every other answer is kept: a value with its fields, the default, an absence, any other refusal
 pub kept : {a b : Answer} → (a ≡ refused 1 → ⊥) → Grows Past a b → b ≡ a
