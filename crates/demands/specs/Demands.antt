@@ -10,7 +10,8 @@ use lib.ListN.{length, getD, take, drop, replicate}
 use Rattle.icc.specs.Curves.{Curve, curveElement}
 use Rattle.icc.specs.Elements.{LutParts, LutTag}
 use Rattle.icc.specs.Numbers.{Is32, Each16, Each32, Bytes}
-use Rattle.icc.specs.Small.{DateTime, dateTimeNumber, s15Fixed16ArrayType, signatureType, dateTimeType, measurementType, viewingConditionsType, cicpType}
+use Rattle.icc.specs.Small.{DateTime, dateTimeNumber, s15Fixed16ArrayType, signatureType, dateTimeType, measurementType}
+use Rattle.icc.specs.Small.{viewingConditionsType, cicpType}
 use Rattle.icc.specs.Tables.{Lut, nine, Sized, Entries16, lut16Type, lut8Type}
 use Rattle.icc.specs.Text.{Ascii, terminated, textType, Description, IsDescription, textDescriptionType, LocalizedTag}
 use Rattle.fields.specs.Bytes.{u16At, u32At, wordsAt}
@@ -35,15 +36,18 @@ use Rattle.lut_meaning.specs.Parts.{curvesOf}
 use Rattle.lut_meaning.specs.Standard.{Counts, answerTold, recordsWritten, PartsTaken, CurvesTaken, PartsAs, TagAs, PassesBy}
 use Rattle.text_meaning.specs.Answer.{Answer as Text·Answer, Span, span, Unicode}
 use Rattle.text_meaning.specs.Mluc.{recordsAsked, textRecordWords as textWords}
-use Rattle.text_meaning.specs.Standard.{TextTagInside, BeginsText, descriptionTold, BeginsDescription, Asked as MlucAsked, localizedTold, ReadLocalized}
+use Rattle.text_meaning.specs.Standard.{TextTagInside, BeginsText, descriptionTold, BeginsDescription, Asked as MlucAsked, localizedTold}
+use Rattle.text_meaning.specs.Standard.{ReadLocalized}
 use Rattle.small_meaning.specs.Answer.{Answer as Small·Answer}
 use Rattle.small_meaning.specs.Readers.{Small, chad, sig, date, meas, view, xyz, cicp}
-use Rattle.small_meaning.specs.Standard.{signatureTold, someXyzType, firstTold, measurementTold, viewTold, cicpTold, WrittenRead, ReadWritten, BeginsNine, BeginsDate}
+use Rattle.small_meaning.specs.Standard.{signatureTold, someXyzType, firstTold, measurementTold, viewTold, cicpTold, WrittenRead}
+use Rattle.small_meaning.specs.Standard.{ReadWritten, BeginsNine, BeginsDate}
 use Rattle.lut_view_meaning.specs.Answer.{Answer, inNumbers as View·inNumbers}
 use Rattle.lut_view_meaning.specs.Standard.{ShowsColours, ShowsClut}
 use Rattle.lut_view_meaning.specs.View.{numbersOf, tableBy, storedAt}
 use Rattle.lut_view_meaning.specs.declared.TableNumbers.{TableNumbers}
-use Rattle.demands.specs.Readers.{Reader, lut, trc, string, small, Call, Result, numbers, meaning, Outcome, value, default, absent, refused, Library, ends, Promised, answered}
+use Rattle.demands.specs.Readers.{Reader, lut, trc, string, small, Call, Result, numbers, meaning, Outcome, value, default, absent}
+use Rattle.demands.specs.Readers.{refused, Library, ends, Promised, answered}
 
 -- the bytes of the tag in lookup tables and text, where a size of 0 counts as the shortest tag's, and that they lie in the profile
 abbrev pub tag : Call → List ℕ
