@@ -17,7 +17,6 @@ use Rattle.fields.proofs.Located.{past, part-is}
 use Rattle.fields.proofs.Never.{never}
 use Rattle.lut_meaning.specs.Lut.{tagOf, lutOf}
 use Rattle.lut_view_meaning.specs.View.{tableBy, entryOf}
-use Rattle.lut_view_meaning.specs.declared.TableNumbers.{TableNumbers}
 use Rattle.answers_jobs.specs.Stream.{tailOf}
 use Rattle.answers_jobs.specs.declared.StreamTail.{StreamTail}
 use Rattle.answers_lines.specs.View.{ViewAndWords}
@@ -29,7 +28,7 @@ use Rattle.small_meaning.specs.Small.{chadOf, sigOf, dateOf, measOf, viewOf, xy
 use Rattle.text_meaning.specs.Text.{stringOf, slotsAfter as Text·slotsAfter}
 use Rattle.export_words.specs.Exported.{Exported, always, within, Gave, GaveWith}
 use Rattle.export_words.specs.declared.Layout.{Layout}
-use Rattle.export_words.proofs.Telling.{in-front, no-words, was-told, was-told-slots}
+use Rattle.export_words.proofs.Telling.{in-front, no-words, enough, was-told, was-told-slots}
 use Rattle.export_curve.specs.Layout.{curveLayout}
 use Rattle.export_lut.specs.Layout.{lutLayout, abmLayout, entryExported, entryLayout, numbersIn}
 use Rattle.export_small.specs.Layout.{smallExported, chadLayout, sigLayout, dateLayout, measLayout, viewLayout, xyzLayout, cicpLayout}
@@ -239,9 +238,11 @@ tail-room reader b index n channel t f =
     P x = x ≡ StreamTail.Index (StreamIndex.At n channel) → 1 + n ≤ length b
 
 -- the entry by the numbers that the words tell
-pub entry-at : (t b ws : List ℕ) (index : StreamIndex) (n channel : ℕ) (v : TableNumbers) {r : ℕ} {out out' : List ℕ} → length out ≡ 37 → index ≡ StreamIndex.At n channel → v ≡ numbersIn ws → Gave (always entryLayout) (within (entryLayout .words) out (entryExported (entryOf t (tableBy t v) (take ((1 + n) - 1) (drop 1 b)) channel))) r out out' → Gave (always entryLayout) (entryExportedAt ws t b index) r out out'
+pub entry-at : (t b ws : List ℕ) (index : StreamIndex) (n channel : ℕ) {r : ℕ} {out out' : List ℕ} → length out ≡ 37 → length ws ≡ 37 → index ≡ StreamIndex.At n channel → Gave (always entryLayout) (within (entryLayout .words) out (within (abmLayout .words) ws (entryExported (entryOf t (tableBy t (numbersIn ws)) (take ((1 + n) - 1) (drop 1 b)) channel)))) r out out' → Gave (always entryLayout) (entryExportedAt ws t b index) r out out'
 unfolding entryExportedAt
-entry-at t b ws index n channel v h e f g = rw (e, ← f, ← part-is b 1 n) (was-told 1 (omega arith) g)
+entry-at t b ws index n channel h w e g =
+    let answer : Exported = entryExported (entryOf t (tableBy t (numbersIn ws)) (take ((1 + n) - 1) (drop 1 b)) channel) in
+    rw (e, ← part-is b 1 n) (rw (enough (abmLayout .words) ws answer (omega (arith, w))) at (was-told 1 (omega arith) g))
 
 pub entry-none : (t b ws out : List ℕ) (index : StreamIndex) → index ≡ StreamIndex.Nothing → Gave (always entryLayout) (entryExportedAt ws t b index) 100 out out
 unfolding entryExportedAt

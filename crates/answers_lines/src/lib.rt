@@ -52,21 +52,7 @@ fn entry(
             channel,
         } => {
             let end = 1 + coordinates as usize;
-            let numbers = export_lut::numbers_in(table);
-            let start = numbers.start;
-            let grid_at = numbers.grid_at;
-            exports::khalyksor_entry_at(
-                tag,
-                start.0,
-                numbers.entry_size,
-                numbers.inputs,
-                numbers.outputs,
-                grid_at.0,
-                numbers.grid_step,
-                &behind[1..end],
-                channel,
-                out,
-            )
+            exports::khalyksor_entry_at(tag, table, &behind[1..end], channel, out)
         }
         StreamIndex::TooMany => ABSENT,
         StreamIndex::Nothing => ABSENT,

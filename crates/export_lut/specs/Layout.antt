@@ -9,6 +9,7 @@ use Rattle.fields.specs.declared.Kind.the-variants.{Mft1, Mft2, Mab, Mba}
 use Rattle.lut_mft_meaning.specs.Answer.{Fields}
 use Rattle.lut_meaning.specs.Answer.{Abm, State, Answer}
 use Rattle.lut_view_meaning.specs.Answer.{Answer as Entry·Answer}
+use Rattle.lut_view_meaning.specs.View.{noNumbers}
 use Rattle.lut_view_meaning.specs.declared.TableNumbers.{TableNumbers}
 use Rattle.export_words.specs.Exported.{Exported, value, only, absent, unsigned, signedFrom}
 use Rattle.export_words.specs.declared.Layout.{Layout}
@@ -71,4 +72,6 @@ unfoldable pub numbersIn : List ℕ → TableNumbers
 numbersIn ws =
     cond (eqb (getD ws 0 0) (signatureOf Mft1)) (mftNumbers 1 ws) (
     cond (eqb (getD ws 0 0) (signatureOf Mft2)) (mftNumbers 2 ws) (
-    abmNumbers ws))
+    cond (eqb (getD ws 0 0) (signatureOf Mab)) (abmNumbers ws) (
+    cond (eqb (getD ws 0 0) (signatureOf Mba)) (abmNumbers ws)
+    noNumbers)))

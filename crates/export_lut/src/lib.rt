@@ -9,13 +9,14 @@ use lut_meaning::Lut;
 use lut_meaning::LutAnswer;
 use lut_mft_meaning::MftTable;
 use lut_view_meaning::EntryAnswer;
+use lut_view_meaning::NO_NUMBERS;
 use lut_view_meaning::TableNumbers;
-ghost use Prim.Native.Nat.{_-_};
+ghost use Prim.Native.Nat.{_-_, _%_};
 ghost use mathlib.Core.Path.{_≡_};
 ghost use mathlib.Core.Bool.{cond};
 ghost use mathlib.Core.List.{_++_};
 ghost use lib.Dec.{eqb};
-ghost use lib.ListN.{length};
+ghost use lib.ListN.{length, getD};
 ghost use lib.Seq.{sets};
 ghost use Rattle.fields.specs.Tag.{signatureOf};
 ghost use Rattle.fields.specs.declared.Kind.the-variants.{Mft1, Mft2, Mab, Mba};
@@ -190,42 +191,56 @@ fn grid_before(start: u64) -> u64
     start - 20
 }
 
-fn mft_numbers(words: &[u64; 37], size: u8) -> TableNumbers
+// The low byte of a word by its number.
+fn byte_at(words: &[u64], i: usize) -> u8
+    ensures { λ r. ⌜ r ≡ getD (now (words .entry)) i 0 % 256 ⌝ }
+{
+    export_words::low_byte(export_words::word_at(words, i))
+}
+
+fn mft_numbers(words: &[u64], size: u8) -> TableNumbers
     ensures { λ r. ⌜ r ≡ mftNumbers size (now (words .entry)) ⌝ }
 {
     TableNumbers {
-        start: InTag(words[17]),
+        start: InTag(export_words::word_at(words, 17)),
         entry_size: size,
-        inputs: export_words::low_byte(words[1]),
-        outputs: export_words::low_byte(words[2]),
+        inputs: byte_at(words, 1),
+        outputs: byte_at(words, 2),
         grid_at: InTag(10),
         grid_step: 0,
     }
 }
 
-fn abm_numbers(words: &[u64; 37]) -> TableNumbers
+fn abm_numbers(words: &[u64]) -> TableNumbers
     ensures { λ r. ⌜ r ≡ abmNumbers (now (words .entry)) ⌝ }
 {
-    let start = words[31];
+    let start = export_words::word_at(words, 31);
     TableNumbers {
         start: InTag(start),
-        entry_size: export_words::low_byte(words[33]),
-        inputs: export_words::low_byte(words[1]),
-        outputs: export_words::low_byte(words[2]),
+        entry_size: byte_at(words, 33),
+        inputs: byte_at(words, 1),
+        outputs: byte_at(words, 2),
         grid_at: InTag(grid_before(start)),
         grid_step: 1,
     }
 }
 
-// The numbers of the colour table, taken from the words of a lookup table.
-pub fn numbers_in(words: &[u64; 37]) -> TableNumbers
+// The numbers of the colour table, taken from the words of a lookup table. Words that begin with no lookup table's type tell of none.
+pub fn numbers_in(words: &[u64]) -> TableNumbers
     ensures { λ r. ⌜ r ≡ numbersIn (now (words .entry)) ⌝ }
 {
-    if words[0] == Kind::MFT1 as u64 {
+    let first = export_words::word_at(words, 0);
+    if first == Kind::MFT1 as u64 {
         return mft_numbers(words, 1);
     }
-    if words[0] == Kind::MFT2 as u64 {
+    if first == Kind::MFT2 as u64 {
         return mft_numbers(words, 2);
     }
-    abm_numbers(words)
+    if first == Kind::MAB as u64 {
+        return abm_numbers(words);
+    }
+    if first == Kind::MBA as u64 {
+        return abm_numbers(words);
+    }
+    NO_NUMBERS
 }

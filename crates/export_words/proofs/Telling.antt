@@ -32,15 +32,22 @@ refused-words why r out e =
     no-words (refusalNumber why) r out e
     (λ h. let same : why ≡ nameOf 0 = sym (named why) ∙ ap nameOf h in let z : refusalNumber (nameOf 0) ≡ 0 = rw same at h in omega (arith, z))
 
+-- lent words that are too few, and those that are enough
+pub too-few : {layout : ℕ → Layout} (room : ℕ) (words out : List ℕ) (t : Exported) → length words < room → Gave layout (within room words t) 102 out out
+unfolding within
+too-few room words out t h = rw (lt-ltb _ _ h) (no-words 102 102 out refl (λ e. omega arith))
+
+pub enough : (room : ℕ) (words : List ℕ) (t : Exported) → room ≤ length words → within room words t ≡ t
+unfolding within
+enough room words t h = rw (le-ltb _ _ h)
+
 -- an `out` that is too short
 pub no-room : {layout : ℕ → Layout} (room : ℕ) (out : List ℕ) (t : Exported) → length out < room → Gave layout (within room out t) 102 out out
-unfolding within
-no-room room out t h = rw (lt-ltb _ _ h) (no-words 102 102 out refl (λ e. omega arith))
+no-room room out t h = too-few room out out t h
 
 -- what is told of the result is told of the answer that it stands for
 pub with-room : {layout : ℕ → Layout} (room : ℕ) (t u : Exported) (r : ℕ) (out after : List ℕ) → room ≤ length out → t ≡ u → Gave layout t r out after → Gave layout (within room out u) r out after
-unfolding within
-with-room room t u r out after h e g = rw (le-ltb _ _ h, ← e) g
+with-room room t u r out after h e g = rw (enough room out u h, ← e) g
 
 -- the same beside lent slots
 pub no-room-slots : {layout : ℕ → Layout} (room : ℕ) (t : Exported) (slotsAfter out slots : List ℕ) → length out < room → GaveWith layout room t slotsAfter 102 out out slots slots
@@ -54,8 +61,7 @@ with-room-slots room t u slotsAfter r out after slots slots' h e f g =
 
 -- what was told is what is told, and not the lack of room
 pub was-told : {layout : ℕ → Layout} {t : Exported} {r : ℕ} {before after : List ℕ} (room : ℕ) → room ≤ length before → Gave layout (within room before t) r before after → Gave layout t r before after
-unfolding within
-was-told room h g = rw (le-ltb _ _ h) at g
+was-told {layout} {t} {r} {before} room h g = rw (enough room before t h) at g
 
 pub was-told-slots : {layout : ℕ → Layout} {t : Exported} {slotsAfter : List ℕ} {r : ℕ} {before after slots slots' : List ℕ} (room : ℕ) → room ≤ length before → GaveWith layout room t slotsAfter r before after slots slots' → slots' ≡ slotsAfter
 was-told-slots room h g = rw (le-ltb _ _ h) at (g .slots-are)

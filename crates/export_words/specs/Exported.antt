@@ -41,9 +41,9 @@ signedFrom n from to = record { words = n; from = from; to = to }
 abbrev pub AsLaidOut : (ℕ → Layout) → Exported → Type 0
 AsLaidOut layout t = t .status ≡ 0 → length (t .words) ≡ layout (getD (t .words) 0 0) .words
 
--- an `out` shorter than the layout's room is told so, and nothing else
+-- words shorter than the room that is asked for, mostly those of `out`, are told so, and nothing else
 unfoldable pub within : ℕ → List ℕ → Exported → Exported
-within room out t = cond (ltb (length out) room) (only 102) t
+within room words t = cond (ltb (length words) room) (only 102) t
 
 -- the status is returned, and the words stand in front of `out`, as many as the layout has; the rest of it stays
 pub record Gave (layout : ℕ → Layout) (t : Exported) (r : ℕ) (before after : List ℕ) : Type 0 where

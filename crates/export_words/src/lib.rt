@@ -1,6 +1,7 @@
 // What the exported functions tell: a status, and words in front of a lent `out`.
 ghost use Prim.Native.Nat.{_%_};
 ghost use mathlib.Core.Path.{_≡_};
+ghost use lib.ListN.{getD};
 ghost use lib.Seq.{sets};
 
 // The statuses of an answer that is no refusal.
@@ -76,6 +77,16 @@ pub fn put_numbers(out: &mut [u64], at: usize, numbers: &[u64])
         end += 1;
         i += 1;
     }
+}
+
+// A word by its number; behind the last one all are 0.
+pub fn word_at(words: &[u64], i: usize) -> u64
+    ensures { λ r. ⌜ r ≡ getD (now (words .entry)) i 0 ⌝ }
+{
+    if words.len() <= i {
+        return 0;
+    }
+    words[i]
 }
 
 // The low byte of a word: where the word tells a byte, that byte.

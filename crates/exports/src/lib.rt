@@ -6,8 +6,10 @@ mod curves;
 mod smalls;
 mod tables;
 mod texts;
+mod version;
 
 pub use curves::khalyksor_read_trc_tag;
+pub use smalls::khalyksor_full_range;
 pub use smalls::khalyksor_read_chad_tag;
 pub use smalls::khalyksor_read_cicp_tag;
 pub use smalls::khalyksor_read_date_time_tag;
@@ -18,6 +20,7 @@ pub use smalls::khalyksor_read_xyz_tag;
 pub use tables::khalyksor_entry_at;
 pub use tables::khalyksor_read_lut_tag;
 pub use texts::khalyksor_read_string_tag;
+pub use version::khalyksor_version;
 
 // The status of an `out` that is too short.
 const NO_ROOM: u32 = 102;

@@ -1,6 +1,9 @@
 // The small readers. A size of 0 is an ordinary size.
 use crate::NO_ROOM;
 use fields::Entry;
+ghost use mathlib.Core.Path.{_≡_};
+ghost use mathlib.Core.Bool.{cond};
+ghost use Rattle.small_meaning.specs.Layout.{fullRange};
 ghost use Rattle.small_meaning.specs.Small.{chadOf, sigOf, dateOf, measOf, viewOf, xyzOf, cicpOf};
 ghost use Rattle.export_words.specs.Exported.{always, within, Gave};
 ghost use Rattle.export_small.specs.Layout.{smallExported, chadLayout, sigLayout, dateLayout, measLayout, viewLayout, xyzLayout, cicpLayout};
@@ -122,4 +125,12 @@ pub extern "C" fn khalyksor_read_cicp_tag(
     }
     let got = small_raw::read_cicp_tag(profile, Entry(offset), size);
     export_small::tell_cicp(got, out)
+}
+
+// small_raw::full_range, of the last word of `cicp`: 1 if it says full range, else 0. No status.
+#[no_mangle]
+pub extern "C" fn khalyksor_full_range(range: u64) -> u32
+    ensures { λ r. ⌜ r ≡ cond (fullRange range) 1 0 ⌝ }
+{
+    if range == small_raw::FULL as u64 { 1 } else { 0 }
 }

@@ -1,15 +1,12 @@
 // Lookup tables, and an entry of a colour table.
 use crate::NO_ROOM;
 use fields::Entry;
-use fields::InTag;
-use lut_view::TableNumbers;
 ghost use lib.ListN.{length};
 ghost use Rattle.export_curve.specs.Layout.{walkOf};
 ghost use Rattle.lut_meaning.specs.Lut.{lutOf, slotsAfter};
 ghost use Rattle.lut_view_meaning.specs.View.{entryOf, tableBy};
 ghost use Rattle.export_words.specs.Exported.{always, within, Gave, GaveWith};
-ghost use Rattle.export_lut.specs.Layout.{lutExported, entryExported, lutLayout, abmLayout, entryLayout};
-ghost use Rattle.exports.specs.View.{numbersBy};
+ghost use Rattle.export_lut.specs.Layout.{lutExported, entryExported, lutLayout, abmLayout, entryLayout, numbersIn};
 
 // lut::read_lut_tag. Walk 0 is the crate walk, any other number the book walk. The type's signature, and then: `mft1`, `mft2` input and output
 // channels, grid points, input and output entries, nine matrix numbers, start and length of the input table, the colour table and the
@@ -44,35 +41,25 @@ pub extern "C" fn khalyksor_read_lut_tag(
     export_lut::tell_lut(got, out)
 }
 
-// lut_view::entry_at, of the tag's own bytes. The numbers are those of the lookup table's answer: where the colour table starts, the bytes of an
-// entry, the channels, where the grid bytes stand and the step between them: 10 and 0 for `mft1` and `mft2`, start - 20 and 1 for `mAB ` and
-// `mBA `. One word: the entry.
+// lut_view::entry_at, of the tag's own bytes and the words of its lookup table, as khalyksor_read_lut_tag gave them: `lut` is that `out`, with room
+// for 37 words. One word: the entry.
 #[no_mangle]
 pub extern "C" fn khalyksor_entry_at(
     tag: &[u8],
-    start: u64,
-    size: u8,
-    inputs: u8,
-    outputs: u8,
-    at: u64,
-    step: u8,
+    lut: &[u64],
     index: &[u8],
     channel: u8,
     out: &mut [u64],
 ) -> u32
-    ensures { λ r. ⌜ Gave (always entryLayout) (within (entryLayout .words) (now (out .entry)) (entryExported (entryOf (now (tag .entry)) (tableBy (now (tag .entry)) (numbersBy start size inputs outputs at step)) (now (index .entry)) channel))) r (now (out .entry)) (now (out .exit)) ⌝ }
+    ensures { λ r. ⌜ Gave (always entryLayout) (within (entryLayout .words) (now (out .entry)) (within (abmLayout .words) (now (lut .entry)) (entryExported (entryOf (now (tag .entry)) (tableBy (now (tag .entry)) (numbersIn (now (lut .entry)))) (now (index .entry)) channel)))) r (now (out .entry)) (now (out .exit)) ⌝ }
 {
     if out.len() < export_lut::ENTRY.words {
         return NO_ROOM;
     }
-    let numbers = TableNumbers {
-        start: InTag(start),
-        entry_size: size,
-        inputs,
-        outputs,
-        grid_at: InTag(at),
-        grid_step: step,
-    };
+    if lut.len() < export_lut::ABM.words {
+        return NO_ROOM;
+    }
+    let numbers = export_lut::numbers_in(lut);
     let got = lut_view::entry_at(tag, numbers, index, channel);
     export_lut::tell_entry(got, out)
 }

@@ -17,12 +17,13 @@ use Rattle.fields.specs.Bytes.{u16At}
 use Rattle.lut_clut_meaning.specs.Table.{Table, product, inGrid, pointOf, entryNumber}
 use Rattle.lut_clut_meaning.proofs.Grid.{point-below}
 use Rattle.fields.specs.declared.InTag.{InTag}
+use Rattle.fields.specs.declared.Refusal.{Refusal}
 use Rattle.lut_meaning.specs.Answer.{stateFrom}
 use Rattle.lut_meaning.specs.declared.AbmTable.{AbmTable}
 use Rattle.lut_meaning.specs.declared.LutAnswer.{LutAnswer}
 use Rattle.lut_mft_meaning.specs.declared.MftTable.{MftTable}
 use Rattle.lut_view_meaning.specs.Answer.{Answer, value, absent}
-use Rattle.lut_view_meaning.specs.View.{gridFrom, tableBy, numbersOf, entryFrom, entryOf}
+use Rattle.lut_view_meaning.specs.View.{noNumbers, gridFrom, tableBy, numbersOf, entryFrom, entryOf}
 use Rattle.lut_view_meaning.specs.declared.TableNumbers.{TableNumbers}
 use Rattle.lut_view.specs.Point.{pointAt, Appended}
 use Rattle.lut_view.specs.declared.Point.{Point}
@@ -231,4 +232,10 @@ mft-numbers a x e = rw e refl
 pub abm-numbers : (a : LutAnswer) (x : AbmTable) → a ≡ LutAnswer.Abm x → (g : InTag) → g .0 ≡ x .«clut_start» .0 - 20 → record { start = x .«clut_start»; «entry_size» = x .«entry_size»; inputs = x .inputs; outputs = x .outputs; «grid_at» = g; «grid_step» = 1 } ≡ numbersOf (stateFrom a)
 abm-numbers a x e g h = rw (e, ← h) refl
 
-pub ruleset number-laws = (mft-numbers, abm-numbers)
+pub absent-numbers : (a : LutAnswer) → a ≡ LutAnswer.Absent → noNumbers ≡ numbersOf (stateFrom a)
+absent-numbers a e = rw e refl
+
+pub refused-numbers : (a : LutAnswer) (why : Refusal) → a ≡ LutAnswer.Refused why → noNumbers ≡ numbersOf (stateFrom a)
+refused-numbers a why e = rw e refl
+
+pub ruleset number-laws = (mft-numbers, abm-numbers, absent-numbers, refused-numbers)

@@ -5,6 +5,7 @@
 //   mAB , mBA    16 grid bytes, one a dimension, the bytes of an entry and 3 reserved, then the entries
 use fields::InTag;
 use lut_meaning::LutAnswer;
+use lut_view_meaning::NO_NUMBERS;
 pub use lut_view_meaning::EntryAnswer;
 pub use lut_view_meaning::TableNumbers;
 pub use lut_view_meaning::TableView;
@@ -12,7 +13,7 @@ ghost use mathlib.Core.Path.{_≡_};
 ghost use Prim.Native.Nat.{_-_, _^_, _<_};
 ghost use Rattle.lut_meaning.specs.Answer.{stateFrom};
 ghost use Rattle.lut_view_meaning.specs.Answer.{inNumbers};
-ghost use Rattle.lut_view_meaning.specs.View.{clutHead, noNumbers, numbersOf, gridFrom, tableBy, entryFrom, entryOf};
+ghost use Rattle.lut_view_meaning.specs.View.{clutHead, numbersOf, gridFrom, tableBy, entryFrom, entryOf};
 ghost use Rattle.lut_view.specs.Point.{pointAt, Appended};
 
 // Where the one grid byte of `mft1` and `mft2` stands, and the step from it to the next.
@@ -39,20 +40,6 @@ fn grid_before(start: InTag) -> InTag
         return InTag(0);
     }
     InTag(start.0 - CLUT_HEAD)
-}
-
-// The numbers of no colour table.
-fn no_numbers() -> TableNumbers
-    ensures { λ r. ⌜ r ≡ noNumbers ⌝ }
-{
-    TableNumbers {
-        start: InTag(0),
-        entry_size: 0,
-        inputs: 0,
-        outputs: 0,
-        grid_at: InTag(0),
-        grid_step: 0,
-    }
 }
 
 // The numbers of the colour table of an answer.
@@ -82,8 +69,8 @@ pub fn numbers_of(answer: LutAnswer) -> TableNumbers
                 grid_step: CLUT_STEP,
             }
         }
-        LutAnswer::Absent => no_numbers(),
-        LutAnswer::Refused(_) => no_numbers(),
+        LutAnswer::Absent => NO_NUMBERS,
+        LutAnswer::Refused(_) => NO_NUMBERS,
     }
 }
 

@@ -13,6 +13,16 @@ pub struct TableNumbers {
     pub grid_step: u8,
 }
 
+// The numbers of no colour table.
+pub const NO_NUMBERS: TableNumbers = TableNumbers {
+    start: InTag(0),
+    entry_size: 0,
+    inputs: 0,
+    outputs: 0,
+    grid_at: InTag(0),
+    grid_step: 0,
+};
+
 // A lent tag and the numbers of its colour table.
 pub struct TableView<'a> {
     pub tag: &'a [u8],

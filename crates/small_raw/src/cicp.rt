@@ -12,11 +12,14 @@ ghost use Rattle.small_meaning.specs.Answer.{codeNumbers, cicpInNumbers};
 ghost use Rattle.small_meaning.specs.Layout.{codePoints, fullRange};
 ghost use Rattle.small_meaning.specs.Small.{cicpOf};
 
+// The flag of the full range.
+pub const FULL: u8 = 1;
+
 // Whether the codes say full range. The Rust's full_range.
 pub fn full_range(code: CicpCodes) -> bool
     ensures { λ r. ⌜ r ≡ fullRange (code .range) ⌝ }
 {
-    code.range == 1
+    code.range == FULL
 }
 
 // cicpType, 'cicp'

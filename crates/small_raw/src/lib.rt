@@ -4,6 +4,7 @@ mod cicp;
 mod dtim;
 mod sig;
 
+pub use cicp::FULL;
 pub use cicp::full_range;
 pub use cicp::read_cicp_tag;
 pub use dtim::read_date_time_tag;

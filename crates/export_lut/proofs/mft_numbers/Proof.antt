@@ -6,11 +6,4 @@ use Rattle.export_lut.proofs.mft_numbers.Tie as tie
 
 pub mft-numbers-spec : {M : Type 1} → statement M
 mft-numbers-spec =
-    tie.close
-    (tie.spec
-    (λ c. search needs)
-    (λ c. search needs)
-    (λ c κs. search needs)
-    (λ c. search needs)
-    (λ c κs. search needs)
-    (λ c. cc))
+    tie.close (tie.spec (λ c κs. search needs) (λ c κs. search needs) (λ c κs. search needs) (λ c. cc))
