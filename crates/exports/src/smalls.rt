@@ -132,5 +132,9 @@ pub extern "C" fn khalyksor_read_cicp_tag(
 pub extern "C" fn khalyksor_full_range(range: u64) -> u32
     ensures { λ r. ⌜ r ≡ cond (fullRange range) 1 0 ⌝ }
 {
-    if range == small_raw::FULL as u64 { 1 } else { 0 }
+    if range == small_raw::FULL as u64 {
+        1
+    } else {
+        0
+    }
 }

@@ -5,8 +5,8 @@
 //   mAB , mBA    16 grid bytes, one a dimension, the bytes of an entry and 3 reserved, then the entries
 use fields::InTag;
 use lut_meaning::LutAnswer;
-use lut_view_meaning::NO_NUMBERS;
 pub use lut_view_meaning::EntryAnswer;
+use lut_view_meaning::NO_NUMBERS;
 pub use lut_view_meaning::TableNumbers;
 pub use lut_view_meaning::TableView;
 ghost use mathlib.Core.Path.{_≡_};
