@@ -19,6 +19,9 @@ const LINES: [(u32, u32); 34] = [
 ];
 const DEFAULT_LINES: [u32; 2] = [947, 957];
 
+/// Behind what is wrong, where the Rust returns the same for our answer as for the right one.
+const BY_LINE: &str = ", as only its line in reader.rs shows";
+
 /// Either that line and answer agree, with the number of the exception that they needed, or what is wrong.
 pub fn check(job: &Job, line: &Line) -> Result<Option<usize>, String> {
     let rust = call(moxcms_reader(job), &job.profile, job.offset, job.size, &options(job)).ok_or("no such reader")?;
@@ -31,12 +34,13 @@ pub fn check(job: &Job, line: &Line) -> Result<Option<usize>, String> {
         }
         (Ours::Refused(why), Err(error)) => {
             let number = number_of(job, error)?;
-            require(*why == number, &format!("the Rust's error is that of refusal {number}"))?;
+            let same_error = matches!(error, CmsError::InvalidProfile) && LINES.iter().any(|(_, number)| number == why);
+            require(*why == number, &format!("the Rust's error is that of refusal {number}{}", if same_error { BY_LINE } else { "" }))?;
             0
         }
         (Ours::Default, Ok(Some(Value::Xyz(v)))) => {
             require([v.x, v.y, v.z].iter().all(|number| number.to_bits() == 0), "the Rust has no zeros")?;
-            require(DEFAULT_LINES.contains(&line_of(job)), "a value in the Rust")?;
+            require(DEFAULT_LINES.contains(&line_of(job)), &format!("a value in the Rust{BY_LINE}"))?;
             return Ok(Some(2));
         }
         (Ours::Value(_, codes), Err(CmsError::InvalidCicp)) if job.reader == 10 => {
@@ -153,8 +157,8 @@ fn same(job: &Job, name: &str, numbers: &[i64], lent: &[u32], value: &Value) -> 
             require(discriminant(&StandardObserver::from(numbers[6] as u32)) == discriminant(&v.observer), "the number at byte 32")
         }
         Value::Xyz(v) => {
-            require(!DEFAULT_LINES.contains(&line_of(job)), "a default in the Rust")?;
-            doubles(numbers, &[v.x, v.y, v.z])
+            doubles(numbers, &[v.x, v.y, v.z])?;
+            require(!DEFAULT_LINES.contains(&line_of(job)), &format!("a default in the Rust{BY_LINE}"))
         }
         Value::Cicp(c) => {
             let codes = numbers.iter().map(|n| u8::try_from(*n)).collect::<Result<Vec<u8>, _>>().map_err(|_| "no bytes")?;
