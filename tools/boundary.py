@@ -1,4 +1,5 @@
-"""The library's boundary as names.toml has it: what the functions take and answer. For tools that call the library, or write of it."""
+"""The library's boundary as names.toml has it: what the functions take and answer, and the readers as a person asks for them. For tools that call
+the library, or write of it."""
 
 import ctypes
 import re
@@ -74,7 +75,7 @@ def call(loaded: ctypes.CDLL, name: str, **values: int | bytes | ctypes.Array) -
             continue
         if isinstance(value, bytes):
             value = (C_NUMBERS[slice_of[1]] * len(value)).from_buffer_copy(value)
-        arguments += [value, ctypes.c_size_t(len(value))]
+        arguments += [value, ctypes.c_uint64(len(value))]
     function = loaded[name]
     function.restype = ctypes.c_uint32
     return function(*arguments), out
@@ -121,3 +122,70 @@ def records(name: str, out: ctypes.Array, slots: ctypes.Array) -> Iterator[str]:
     signed = [field.signed for field in fields_of(record) for _ in range(field.count)][:length]
     for number in range(sum(out[field.place] for field in fields_of(prefix) if field.name in counts)):
         yield " ".join(map(shown, slots[length * number : length * (number + 1)], signed))
+
+
+# ---- the readers
+
+LUT = "khalyksor_read_lut_tag"
+TRC = "khalyksor_read_trc_tag"
+
+# function and walk of each reader, in the order of the numbers that the jobs of `answers` have
+READERS = {
+    "lut": (LUT, "CRATE"),
+    "trc": (TRC, "CRATE"),
+    "text": ("khalyksor_read_string_tag", ""),
+    "chad": ("khalyksor_read_chad_tag", ""),
+    "sig": ("khalyksor_read_tech_tag", ""),
+    "dtim": ("khalyksor_read_date_time_tag", ""),
+    "meas": ("khalyksor_read_meas_tag", ""),
+    "view": ("khalyksor_read_viewing_conditions", ""),
+    "xyz": ("khalyksor_read_xyz_tag", ""),
+    "cicp": ("khalyksor_read_cicp_tag", ""),
+    "lut-book": (LUT, "BOOK"),
+    "trc-book": (TRC, "BOOK"),
+    "entry": (LUT, "CRATE"),
+}
+MLUC_RECORD_BYTES = 12  # in the profile
+MOST_COORDINATES = next(field.count for field in fields_of("MAB") if field.name == "GRID")
+
+
+@dataclass(frozen=True, slots=True)
+class Question:
+    """What one call of one reader asks for. Only the reader `entry` has an index and a channel."""
+
+    reader: str
+    profile: bytes
+    offset: int
+    size: int
+    limit: int
+    points: int
+    index: bytes = b""
+    channel: int = 0
+
+
+def answer(asked: Question, library: ctypes.CDLL) -> list[str]:
+    """The lines of the answer. The slots suffice for every tag."""
+    function, walk = READERS[asked.reader]
+    if function == LUT:
+        words = NUMBERS["LUT_RECORDS"] * record_words("CURVE")
+    else:
+        words = (min(asked.size, len(asked.profile)) // MLUC_RECORD_BYTES + 1) * record_words("MLUC_RECORD")
+    slots = lent(words)
+    given = {
+        "profile": asked.profile,
+        "offset": asked.offset,
+        "size": asked.size,
+        "limit": asked.limit,
+        "points": asked.points,
+        "walk": WALKS.get(walk, 0),
+        "slots": slots,
+    }
+    status, out = call(library, function, **given)
+    value = status == STATUSES["VALUE"]
+    if value and asked.reader == "entry":
+        tag = asked.profile[asked.offset : asked.offset + asked.size]
+        function, lut = "khalyksor_entry_at", out
+        status, out = call(library, function, tag=tag, lut=lut, index=asked.index, channel=asked.channel)
+        value = False
+    first = line(function, status, out)
+    return [first, *records(function, out, slots)] if value else [first]

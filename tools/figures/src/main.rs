@@ -8,6 +8,7 @@
 //! milliseconds of processor time, ours and the Rust's by turns, and the figure is the median of the rounds. Our side writes its words into lent
 //! memory, the Rust's returns a value that is dropped; both are part of the call.
 
+mod khalyksor;
 mod ours;
 mod tags;
 

@@ -1,45 +1,26 @@
-//! The functions of crate `exports`, as its source declares them: a slice passes as a pointer and a length.
+//! Our readers, as other programs call them: through include/khalyksor.rs.
 use crate::Kind;
+use crate::khalyksor::*;
 use crate::tags::{Reader, Tag};
 use std::hint::black_box;
 
-unsafe extern "C" {
-    fn khalyksor_read_lut_tag(
-        profile: *const u8, length: usize, offset: u32, size: u32, limit: u64, points: u64, walk: u32,
-        slots: *mut u32, words: usize, out: *mut u64, room: usize,
-    ) -> u32;
-    fn khalyksor_read_trc_tag(
-        profile: *const u8, length: usize, offset: u32, size: u32, limit: u64, walk: u32, out: *mut u64, room: usize,
-    ) -> u32;
-    fn khalyksor_read_string_tag(
-        profile: *const u8, length: usize, offset: u32, size: u32, slots: *mut u32, words: usize, out: *mut u64, room: usize,
-    ) -> u32;
-    fn khalyksor_read_chad_tag(profile: *const u8, length: usize, offset: u32, size: u32, out: *mut u64, room: usize) -> u32;
-    fn khalyksor_read_tech_tag(profile: *const u8, length: usize, offset: u32, size: u32, out: *mut u64, room: usize) -> u32;
-    fn khalyksor_read_date_time_tag(profile: *const u8, length: usize, offset: u32, size: u32, out: *mut u64, room: usize) -> u32;
-    fn khalyksor_read_meas_tag(profile: *const u8, length: usize, offset: u32, size: u32, out: *mut u64, room: usize) -> u32;
-    fn khalyksor_read_viewing_conditions(profile: *const u8, length: usize, offset: u32, size: u32, out: *mut u64, room: usize) -> u32;
-    fn khalyksor_read_xyz_tag(profile: *const u8, length: usize, offset: u32, size: u32, out: *mut u64, room: usize) -> u32;
-    fn khalyksor_read_cicp_tag(profile: *const u8, length: usize, offset: u32, size: u32, out: *mut u64, room: usize) -> u32;
-}
-
-/// What is lent to a call: the words of an answer, and slots for 514 curves.
+/// What is lent to a call: the words of the longest answer, and slots for the curves of any lookup table.
 pub struct Room {
-    out: [u64; 37],
+    out: [u64; KHALYKSOR_LUT_WORDS],
     slots: Vec<u32>,
 }
 
 impl Room {
     pub fn new() -> Room {
-        Room { out: [0; 37], slots: vec![0; 5140] }
+        Room { out: [0; KHALYKSOR_LUT_WORDS], slots: vec![0; KHALYKSOR_LUT_RECORDS as usize * KHALYKSOR_CURVE_RECORD_WORDS] }
     }
 }
 
 /// What a status says. A default counts as an absence.
 pub fn kind(status: u32) -> Kind {
     match status {
-        0 => Kind::Value,
-        100 | 101 => Kind::Absent,
+        KHALYKSOR_VALUE => Kind::Value,
+        KHALYKSOR_ABSENT | KHALYKSOR_DEFAULT => Kind::Absent,
         _ => Kind::Refused,
     }
 }
@@ -50,16 +31,16 @@ pub fn reader(of: Reader) -> fn(&Tag, &mut Room) -> u32 {
         ($name:ident, $tag:ident, $room:ident $(, $more:expr)*) => {{
             let (profile, offset, size) = (black_box(&$tag.profile), black_box($tag.offset), black_box($tag.size));
             let status = unsafe {
-                $name(profile.as_ptr(), profile.len(), offset, size $(, $more)*, $room.out.as_mut_ptr(), $room.out.len())
+                $name(profile.as_ptr(), profile.len() as u64, offset, size $(, $more)*, $room.out.as_mut_ptr(), $room.out.len() as u64)
             };
             black_box(&$room.out);
             status
         }};
     }
     match of {
-        Reader::Lut => |t, r| call!(khalyksor_read_lut_tag, t, r, t.limit, t.points, 0, r.slots.as_mut_ptr(), r.slots.len()),
-        Reader::Trc => |t, r| call!(khalyksor_read_trc_tag, t, r, t.limit, 0),
-        Reader::Text => |t, r| call!(khalyksor_read_string_tag, t, r, r.slots.as_mut_ptr(), r.slots.len()),
+        Reader::Lut => |t, r| call!(khalyksor_read_lut_tag, t, r, t.limit, t.points, KHALYKSOR_WALK_CRATE, r.slots.as_mut_ptr(), r.slots.len() as u64),
+        Reader::Trc => |t, r| call!(khalyksor_read_trc_tag, t, r, t.limit, KHALYKSOR_WALK_CRATE),
+        Reader::Text => |t, r| call!(khalyksor_read_string_tag, t, r, r.slots.as_mut_ptr(), r.slots.len() as u64),
         Reader::Chad => |t, r| call!(khalyksor_read_chad_tag, t, r),
         Reader::Sig => |t, r| call!(khalyksor_read_tech_tag, t, r),
         Reader::Dtim => |t, r| call!(khalyksor_read_date_time_tag, t, r),

@@ -1,16 +1,11 @@
 //! Our lookup-table reader and moxcms's on colour tables at the limit of 10,000,000 entries. No job of `answers` is long enough for
 //! them: the program makes each tag itself, and calls our reader through its exported function.
+mod khalyksor;
+
+use khalyksor::*;
 use oracle::call::{Value, call};
 use oracle::{CmsError, LutStore, LutWarehouse, ParsingOptions};
 use std::process::exit;
-
-// A slice is its pointer and its length.
-unsafe extern "C" {
-    fn khalyksor_read_lut_tag(
-        profile: *const u8, profile_length: usize, offset: u32, size: u32, limit: u64, points: u64, walk: u32, slots: *mut u32,
-        slots_length: usize, out: *mut u64, out_length: usize,
-    ) -> u32;
-}
 
 const HEAD: usize = 48; // in front of the colour table
 const CLUT_HEAD: usize = 20;
@@ -30,22 +25,23 @@ fn tag(grid: [u8; 3], outputs: u8, entry_size: u8) -> Vec<u8> {
 
 /// Our status, and the range and entry size of the colour table.
 fn ours(tag: &[u8]) -> (u32, [u64; 3]) {
-    let (mut slots, mut out) = ([0u32; 10], [0u64; 37]);
+    let (mut slots, mut out) = ([0u32; KHALYKSOR_CURVE_RECORD_WORDS], [0u64; KHALYKSOR_LUT_WORDS]);
     let size = tag.len() as u32;
     let status = unsafe {
         khalyksor_read_lut_tag(
-            tag.as_ptr(), tag.len(), 0, size, 4_096, 1_000_000, 0, slots.as_mut_ptr(), slots.len(), out.as_mut_ptr(), out.len(),
+            tag.as_ptr(), tag.len() as u64, 0, size, KHALYKSOR_HOUSE_LIMIT, KHALYKSOR_HOUSE_POINTS, KHALYKSOR_WALK_CRATE,
+            slots.as_mut_ptr(), slots.len() as u64, out.as_mut_ptr(), out.len() as u64,
         )
     };
-    (status, [out[31], out[32], out[33]])
+    (status, [out[KHALYKSOR_MAB_CLUT_START], out[KHALYKSOR_MAB_CLUT_LENGTH], out[KHALYKSOR_MAB_ENTRY_SIZE]])
 }
 
 fn compare(grid: [u8; 3], outputs: u8, entry_size: u8) -> Result<String, String> {
     let tag = tag(grid, outputs, entry_size);
-    let options = ParsingOptions { max_profile_size: usize::MAX, max_allowed_trc_size: 4_096, max_allowed_clut_size: 1_000_000 };
+    let options = ParsingOptions { max_profile_size: usize::MAX, max_allowed_trc_size: KHALYKSOR_HOUSE_LIMIT as usize, max_allowed_clut_size: KHALYKSOR_HOUSE_POINTS as usize };
     let (status, [start, length, size]) = ours(&tag);
     let said = match call(1, &tag, 0, tag.len() as u32, &options).unwrap() {
-        Ok(Some(Value::Table(LutWarehouse::Multidimensional(t)))) if status == 0 => {
+        Ok(Some(Value::Table(LutWarehouse::Multidimensional(t)))) if status == KHALYKSOR_VALUE => {
             let bytes = &tag[start as usize..(start + length) as usize];
             let (entries, same) = match t.clut.ok_or("no colour table in the Rust")? {
                 LutStore::Store8(found) => (found.len(), size == 1 && found == bytes),
@@ -56,7 +52,7 @@ fn compare(grid: [u8; 3], outputs: u8, entry_size: u8) -> Result<String, String>
             }
             format!("value, {entries} entries of {size} at {start}, each the same")
         }
-        Err(CmsError::IncorrectlyFormedLut(text)) if status == 6 && text.contains("exceeded 10_000_000") => "refused 6".to_string(),
+        Err(CmsError::IncorrectlyFormedLut(text)) if status == KHALYKSOR_REFUSED_GRID_TOO_LARGE && text.contains("exceeded 10_000_000") => "refused 6".to_string(),
         _ => return Err(format!("our status is {status}, and the Rust answers otherwise")),
     };
     Ok(format!("grid {grid:?} to {outputs}, a tag of {} bytes: {said}", tag.len()))
