@@ -95,7 +95,7 @@ static uint32_t edge_of_32(void) {
 /* The tag has `bytes` bytes. Size and length fit it most of the time; at times one of them is short, long, or at an edge of a check, and at times
    some bytes are others. */
 static void finish_tag(uint32_t bytes) {
-    static const uint32_t sizes[] = {0, 1, 7, 8, 11, 12, 13, 19, 20, 24, 27, 28, 35, 36, 43, 44, 45, 47, 48, 51, 52};
+    static const uint32_t sizes[] = {0, 1, 3, 4, 5, 7, 8, 9, 11, 12, 13, 19, 20, 24, 27, 28, 35, 36, 43, 44, 45, 47, 48, 51, 52};
     tag_bytes = bytes;
     size = bytes;
     length = (uint64_t)offset + bytes + (one_in(2) ? 0 : below(40));
@@ -232,7 +232,7 @@ static uint32_t put_curve(uint32_t at) {
         put32(at + 8, entries);
         return 12 + 2 * (entries < 40 ? entries : below(40));
     } else {
-        uint32_t kind = one_in(24) ? between(5, 300) : below(5);
+        uint32_t kind = one_in(48) ? between(5, 300) : one_in(48) ? 5 : below(5);
         put_type(at, "para");
         put16(at + 8, kind);
         if (one_in(12)) put32(at + 16, 0);
@@ -288,9 +288,14 @@ static uint32_t run_at(uint32_t at, uint32_t field, uint32_t curves) {
 static uint32_t colour_table_at(uint32_t at, uint32_t inputs, uint32_t outputs) {
     uint32_t product = outputs, entry_size = one_in(16) ? below(4) : between(1, 2), i;
     int large = one_in(16);
+    int power = one_in(16); /* eight inputs of 16 points, and one output, are 2^32 entries */
     put32(24, at);
+    if (power) {
+        put8(8, 8);
+        put8(9, 1);
+    }
     for (i = 0; i < 16; i++) {
-        uint32_t grid = large ? between(100, 255) : one_in(40) ? below(256) : one_in(24) ? below(2) : between(2, 4);
+        uint32_t grid = power ? 16 : large ? between(100, 255) : one_in(40) ? below(256) : one_in(24) ? below(2) : between(2, 4);
         put8(at + i, grid);
         if (i < inputs && product < 100000) product *= grid;
     }
