@@ -71,6 +71,13 @@ static void put_type(uint32_t at, const char *type) {
     for (i = 0; i < 4; i++) put8(at + (uint32_t)i, (uint8_t)type[i]);
 }
 
+/* the type of some tag, or of none */
+static const char *any_type(void) {
+    static const char *const types[] = {"curv", "para", "mft1", "mft2", "mAB ", "mBA ", "mluc", "desc", "text",
+                                        "XYZ ", "sf32", "meas", "view", "cicp", "sig ", "dtim", "none"};
+    return types[below(sizeof types / sizeof *types)];
+}
+
 static void put_zeros(uint32_t at, uint32_t end) {
     for (; at < end; at++) put8(at, 0);
 }
@@ -228,7 +235,7 @@ static uint32_t put_curve(uint32_t at) {
     static const uint8_t parameters[] = {1, 3, 4, 5, 7};
     if (one_in(2)) {
         uint32_t entries = one_in(3) ? 0 : one_in(64) ? 5000 : below(20);
-        put_type(at, one_in(40) ? "xurv" : "curv");
+        put_type(at, one_in(40) ? any_type() : "curv");
         put32(at + 8, entries);
         return 12 + 2 * (entries < 40 ? entries : below(40));
     } else {
@@ -288,14 +295,15 @@ static uint32_t run_at(uint32_t at, uint32_t field, uint32_t curves) {
 static uint32_t colour_table_at(uint32_t at, uint32_t inputs, uint32_t outputs) {
     uint32_t product = outputs, entry_size = one_in(16) ? below(4) : between(1, 2), i;
     int large = one_in(16);
-    int power = one_in(16); /* eight inputs of 16 points, and one output, are 2^32 entries */
+    int power = one_in(16); /* sixteen inputs of 4 points, and one output, are 2^32 entries, and so are fifteen and 4 */
     put32(24, at);
     if (power) {
-        put8(8, 8);
-        put8(9, 1);
+        int fifteen = one_in(2);
+        put8(8, fifteen ? 15 : 16);
+        put8(9, fifteen ? 4 : 1);
     }
     for (i = 0; i < 16; i++) {
-        uint32_t grid = power ? 16 : large ? between(100, 255) : one_in(40) ? below(256) : one_in(24) ? below(2) : between(2, 4);
+        uint32_t grid = power ? 4 : large ? between(100, 255) : one_in(40) ? below(256) : one_in(24) ? below(2) : between(2, 4);
         put8(at + i, grid);
         if (i < inputs && product < 100000) product *= grid;
     }
@@ -331,7 +339,7 @@ static uint32_t abm_tag(void) {
 
 static uint32_t lut_tag(void) {
     uint32_t bytes = one_in(3) ? mft_tag() : abm_tag();
-    if (one_in(40)) put_type(0, "mft3");
+    if (one_in(40)) put_type(0, any_type());
     return bytes;
 }
 
@@ -357,7 +365,7 @@ static uint32_t string_tag(void) {
         if (units > 2) put_zeros(at + 8 + 2 * units - 2 * below(3), at + 8 + 2 * units);
         return at + 8 + 2 * units + below(4);
     case 3:
-        if (one_in(2)) put_type(0, "dexc");
+        put_type(0, any_type());
         return 8 + below(60);
     default:
         put_type(0, "mluc");
@@ -376,7 +384,7 @@ static uint32_t string_tag(void) {
 
 static uint32_t small_tag(const char *type, uint32_t bytes) {
     new_profile(128);
-    put_type(0, one_in(12) ? "none" : type);
+    put_type(0, one_in(12) ? any_type() : type);
     return bytes;
 }
 
@@ -436,7 +444,16 @@ static void call_entry(void) {
     outputs = (uint32_t)lut[2];
     for (i = 0; i < sizeof index; i++) index[i] = (uint8_t)(one_in(64) ? below(256) : one_in(16) ? below(4) : below(2));
     coordinates = one_in(16) ? below(sizeof index + 1) : inputs < sizeof index ? inputs : sizeof index;
-    if (one_in(16)) lut[below(OUT_WORDS)] = one_in(2) ? below(300) : next();
+    if (one_in(8)) {
+        static const uint8_t words[] = {0, 1, 2, 3, 17, 18, 31, 32, 33};
+        uint32_t word = one_in(4) ? below(OUT_WORDS) : words[below(sizeof words)];
+        switch (below(4)) {
+        case 0: lut[word] = below(5); break;
+        case 1: lut[word] = below(300); break;
+        case 2: lut[word] += UINT64_C(1) << between(8, 63); break;
+        default: lut[word] = next(); break;
+        }
+    }
     if (one_in(16)) lut_words = below(OUT_WORDS);
     if (one_in(16)) tag_length = below((uint32_t)tag_length + 1);
     channel = (uint8_t)(one_in(16) ? below(256) : below(outputs > 0 ? outputs : 1));
