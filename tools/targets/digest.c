@@ -325,7 +325,11 @@ static uint32_t abm_tag(void) {
         put32(16, at);
         at += 48;
     }
-    if (one_in(2)) at = colour_table_at(at, inputs, outputs);
+    if (one_in(2)) {
+        uint32_t table = at;
+        at = colour_table_at(at, inputs, outputs);
+        if (one_in(16)) return table + between(18, 22); /* cut behind the table's head */
+    }
     if (one_in(2)) at = run_at(at, 28, ab ? inputs : outputs);
     if (one_in(2)) at = run_at(at, 20, ab ? outputs : inputs);
     if (!one_in(8)) at = run_at(at, 12, ab ? outputs : inputs);
