@@ -10,12 +10,12 @@ use lib.Seq.{sets, length-sets, take-append-le}
 use lib.Dec.{ltb, eqb}
 use borrow.Author.Tests.{lt-ltb, ltb-false, eqb-true, eq-eqb, ne-eqb}
 use Rattle.fields.proofs.Choice.{each}
-use Rattle.fields.specs.Place.{placeOf, countedSize}
+use Rattle.fields.specs.Place.{placeOf, countedSize, countedTag}
 use Rattle.fields.specs.declared.Place.{Place}
 use Rattle.fields.specs.declared.Place.the-variants.{Past}
 use Rattle.fields.proofs.Located.{past, part-is}
 use Rattle.fields.proofs.Never.{never}
-use Rattle.lut_meaning.specs.Lut.{tagOf, lutOf}
+use Rattle.lut_meaning.specs.Lut.{lutOf}
 use Rattle.lut_view_meaning.specs.View.{tableBy, entryOf}
 use Rattle.answers_jobs.specs.Stream.{tailOf}
 use Rattle.answers_jobs.specs.declared.StreamTail.{StreamTail}
@@ -58,51 +58,51 @@ module _ (n : ℕ) (l : List ℕ) (e : length l ≡ n) where
 module _ (job : StreamJob) (p w b : List ℕ) (index : StreamIndex) {r : ℕ} {out out' : List ℕ} (h : length out ≡ 37) where
   pub asked-1 : {words' : List ℕ} → job .reader ≡ 1 → GaveWith lutLayout (abmLayout .words) (lutExportedOf job p w Crate) (lutWordsAfter job p w Crate) r out out' w words' → ExportedAndWords job p w b index r out out' words'
   unfolding exportedOf layoutOf wordsAfter
-  asked-1 e g = record { gave = rw e (was-told 37 (omega arith) (g .gave)); words-are = rw e (was-told-slots 37 (omega arith) g) }
+  asked-1 e g = record { gave = rw e (was-told _ (omega arith) (g .gave)); words-are = rw e (was-told-slots _ (omega arith) g) }
 
   pub asked-11 : {words' : List ℕ} → job .reader ≡ 11 → GaveWith lutLayout (abmLayout .words) (lutExportedOf job p w Book) (lutWordsAfter job p w Book) r out out' w words' → ExportedAndWords job p w b index r out out' words'
   unfolding exportedOf layoutOf wordsAfter
-  asked-11 e g = record { gave = rw e (was-told 37 (omega arith) (g .gave)); words-are = rw e (was-told-slots 37 (omega arith) g) }
+  asked-11 e g = record { gave = rw e (was-told _ (omega arith) (g .gave)); words-are = rw e (was-told-slots _ (omega arith) g) }
 
   pub asked-3 : {words' : List ℕ} → job .reader ≡ 3 → GaveWith stringLayout (descLayout .words) (textExported (stringOf p (job .offset) (job .size) (length w))) (Text·slotsAfter p (job .offset) (job .size) w) r out out' w words' → ExportedAndWords job p w b index r out out' words'
   unfolding exportedOf layoutOf wordsAfter
-  asked-3 e g = record { gave = rw e (was-told 6 (omega arith) (g .gave)); words-are = rw e (was-told-slots 6 (omega arith) g) }
+  asked-3 e g = record { gave = rw e (was-told _ (omega arith) (g .gave)); words-are = rw e (was-told-slots _ (omega arith) g) }
 
   pub asked-2 : job .reader ≡ 2 → Gave (always curveLayout) (within (curveLayout .words) out (curveExportedOf job p w Crate)) r out out' → ExportedAndWords job p w b index r out out' w
   unfolding exportedOf layoutOf wordsAfter
-  asked-2 e g = record { gave = rw e (was-told 11 (omega arith) g); words-are = rw e }
+  asked-2 e g = record { gave = rw e (was-told _ (omega arith) g); words-are = rw e }
 
   pub asked-12 : job .reader ≡ 12 → Gave (always curveLayout) (within (curveLayout .words) out (curveExportedOf job p w Book)) r out out' → ExportedAndWords job p w b index r out out' w
   unfolding exportedOf layoutOf wordsAfter
-  asked-12 e g = record { gave = rw e (was-told 11 (omega arith) g); words-are = rw e }
+  asked-12 e g = record { gave = rw e (was-told _ (omega arith) g); words-are = rw e }
 
   pub asked-4 : job .reader ≡ 4 → Gave (always chadLayout) (within (chadLayout .words) out (smallExported (chadOf p (job .offset) (job .size)))) r out out' → ExportedAndWords job p w b index r out out' w
   unfolding exportedOf layoutOf wordsAfter
-  asked-4 e g = record { gave = rw e (was-told 9 (omega arith) g); words-are = rw e }
+  asked-4 e g = record { gave = rw e (was-told _ (omega arith) g); words-are = rw e }
 
   pub asked-5 : job .reader ≡ 5 → Gave (always sigLayout) (within (sigLayout .words) out (smallExported (sigOf p (job .offset) (job .size)))) r out out' → ExportedAndWords job p w b index r out out' w
   unfolding exportedOf layoutOf wordsAfter
-  asked-5 e g = record { gave = rw e (was-told 1 (omega arith) g); words-are = rw e }
+  asked-5 e g = record { gave = rw e (was-told _ (omega arith) g); words-are = rw e }
 
   pub asked-6 : job .reader ≡ 6 → Gave (always dateLayout) (within (dateLayout .words) out (smallExported (dateOf p (job .offset) (job .size)))) r out out' → ExportedAndWords job p w b index r out out' w
   unfolding exportedOf layoutOf wordsAfter
-  asked-6 e g = record { gave = rw e (was-told 12 (omega arith) g); words-are = rw e }
+  asked-6 e g = record { gave = rw e (was-told _ (omega arith) g); words-are = rw e }
 
   pub asked-7 : job .reader ≡ 7 → Gave (always measLayout) (within (measLayout .words) out (smallExported (measOf p (job .offset) (job .size)))) r out out' → ExportedAndWords job p w b index r out out' w
   unfolding exportedOf layoutOf wordsAfter
-  asked-7 e g = record { gave = rw e (was-told 7 (omega arith) g); words-are = rw e }
+  asked-7 e g = record { gave = rw e (was-told _ (omega arith) g); words-are = rw e }
 
   pub asked-8 : job .reader ≡ 8 → Gave (always viewLayout) (within (viewLayout .words) out (smallExported (viewOf p (job .offset) (job .size)))) r out out' → ExportedAndWords job p w b index r out out' w
   unfolding exportedOf layoutOf wordsAfter
-  asked-8 e g = record { gave = rw e (was-told 7 (omega arith) g); words-are = rw e }
+  asked-8 e g = record { gave = rw e (was-told _ (omega arith) g); words-are = rw e }
 
   pub asked-9 : job .reader ≡ 9 → Gave (always xyzLayout) (within (xyzLayout .words) out (smallExported (xyzOf p (job .offset) (job .size)))) r out out' → ExportedAndWords job p w b index r out out' w
   unfolding exportedOf layoutOf wordsAfter
-  asked-9 e g = record { gave = rw e (was-told 3 (omega arith) g); words-are = rw e }
+  asked-9 e g = record { gave = rw e (was-told _ (omega arith) g); words-are = rw e }
 
   pub asked-10 : job .reader ≡ 10 → Gave (always cicpLayout) (within (cicpLayout .words) out (smallExported (cicpOf p (job .offset) (job .size)))) r out out' → ExportedAndWords job p w b index r out out' w
   unfolding exportedOf layoutOf wordsAfter
-  asked-10 e g = record { gave = rw e (was-told 4 (omega arith) g); words-are = rw e }
+  asked-10 e g = record { gave = rw e (was-told _ (omega arith) g); words-are = rw e }
 
 -- another reader tells of an absence
 pub asked-none : (job : StreamJob) (p w b : List ℕ) (index : StreamIndex) (out : List ℕ) → (job .reader ≡ 1 → ⊥) → (job .reader ≡ 2 → ⊥) → (job .reader ≡ 3 → ⊥) → (job .reader ≡ 4 → ⊥) → (job .reader ≡ 5 → ⊥) → (job .reader ≡ 6 → ⊥) → (job .reader ≡ 7 → ⊥) → (job .reader ≡ 8 → ⊥) → (job .reader ≡ 9 → ⊥) → (job .reader ≡ 10 → ⊥) → (job .reader ≡ 11 → ⊥) → (job .reader ≡ 12 → ⊥) → (job .reader ≡ 13 → ⊥) → ExportedAndWords job p w b index 100 out out w
@@ -242,7 +242,7 @@ pub entry-at : (t b ws : List ℕ) (index : StreamIndex) (n channel : ℕ) {r : 
 unfolding entryExportedAt
 entry-at t b ws index n channel h w e g =
     let answer : Exported = entryExported (entryOf t (tableBy t (numbersIn ws)) (take ((1 + n) - 1) (drop 1 b)) channel) in
-    rw (e, ← part-is b 1 n) (rw (enough (abmLayout .words) ws answer (omega (arith, w))) at (was-told 1 (omega arith) g))
+    rw (e, ← part-is b 1 n) (rw (enough (abmLayout .words) ws answer (omega (arith, w))) at (was-told _ (omega arith) g))
 
 pub entry-none : (t b ws out : List ℕ) (index : StreamIndex) → index ≡ StreamIndex.Nothing → Gave (always entryLayout) (entryExportedAt ws t b index) 100 out out
 unfolding entryExportedAt
@@ -254,13 +254,13 @@ entry-many t b ws out index e = rw e (no-words 100 100 out refl (λ z. omega ari
 
 module _ (job : StreamJob) (p w b : List ℕ) (index : StreamIndex) {r : ℕ} {table w' : List ℕ} (g : GaveWith lutLayout (abmLayout .words) (lutExportedOf job p w Crate) (lutWordsAfter job p w Crate) r (replicate 37 0) table w w') where
   told : Gave lutLayout (lutExportedOf job p w Crate) r (replicate 37 0) table
-  told = was-told 37 (omega arith) (g .gave)
+  told = was-told _ (omega arith) (g .gave)
 
   -- no value: its status
   pub view-status : (out : List ℕ) → (r ≡ 0 → ⊥) → ViewAndWords job p w b index r out out w'
   unfolding viewExported
   view-status out n =
-      record { gave = rw (← told .status-is, ne-eqb _ _ n) (no-words r r out refl n); words-are = was-told-slots 37 (omega arith) g }
+      record { gave = rw (← told .status-is, ne-eqb _ _ n) (no-words r r out refl n); words-are = was-told-slots _ (omega arith) g }
 
   -- a value is of a tag in the profile
   pub view-lost : (place : Place) (end : ℕ) (out : List ℕ) → end ≡ countedSize (job .size) → place ≡ placeOf (length p) (job .offset) end → place ≡ Past → r ≡ 0 → ViewAndWords job p w b index 100 out out w'
@@ -270,14 +270,14 @@ module _ (job : StreamJob) (p w b : List ℕ) (index : StreamIndex) {r : ℕ} {t
       absurd (omega (arith, told .status-is, z, k))
 
   -- and then the entry
-  pub view-entry : {s : ℕ} {out out' t : List ℕ} → r ≡ 0 → t ≡ tagOf p (job .offset) (job .size) → Gave (always entryLayout) (entryExportedAt table t b index) s out out' → ViewAndWords job p w b index s out out' w'
+  pub view-entry : {s : ℕ} {out out' t : List ℕ} → r ≡ 0 → t ≡ countedTag p (job .offset) (job .size) → Gave (always entryLayout) (entryExportedAt table t b index) s out out' → ViewAndWords job p w b index s out out' w'
   unfolding viewExported
   view-entry {s} {out} {out'} {t} z e h =
       let ws : List ℕ = lutExportedOf job p w Crate .words in
       let status : lutExportedOf job p w Crate .status ≡ 0 = sym (told .status-is) ∙ z in
       let most : length ws ≤ 37 = omega (arith, told .as-laid-out status, few-lut (getD ws 0 0)) in
       let numbers : numbersIn table ≡ numbersIn ws = rw (told .out-is) (same-numbers _ ws (filled ws most)) in
-      record { gave = rw (eq-eqb _ _ status, ← e, ← same-entry table ws t b index numbers) h; words-are = was-told-slots 37 (omega arith) g }
+      record { gave = rw (eq-eqb _ _ status, ← e, ← same-entry table ws t b index numbers) h; words-are = was-told-slots _ (omega arith) g }
 
 pub asked-13 : (job : StreamJob) (p w b : List ℕ) (index : StreamIndex) {r : ℕ} {out out' words' : List ℕ} → job .reader ≡ 13 → ViewAndWords job p w b index r out out' words' → ExportedAndWords job p w b index r out out' words'
 unfolding exportedOf layoutOf wordsAfter

@@ -6,10 +6,11 @@ use mathlib.Core.List.{List, [], _∷_, _++_}
 use lib.Dec.{eqb}
 use lib.ListN.{length, take, drop}
 use Rattle.lines.specs.Text.{Wrote}
+use Rattle.fields.specs.Place.{countedTag}
 use Rattle.curve_meaning.specs.Curve.{trcOf}
 use Rattle.curve_meaning.specs.declared.Walk.{Walk}
 use Rattle.curve_meaning.specs.declared.Walk.the-variants.{Crate, Book}
-use Rattle.lut_meaning.specs.Lut.{tagOf, lutOf, slotsAfter}
+use Rattle.lut_meaning.specs.Lut.{lutOf, slotsAfter}
 use Rattle.lut_view_meaning.specs.View.{tableBy, entryOf}
 use Rattle.small_meaning.specs.Small.{chadOf, sigOf, dateOf, measOf, viewOf, xyzOf, cicpOf}
 use Rattle.text_meaning.specs.Text.{stringOf, slotsAfter as Text·slotsAfter}
@@ -79,7 +80,7 @@ module _ (job : StreamJob) (profile words : List ℕ) where
       cond (eqb r 10) (smallExported (cicpOf profile (job .offset) (job .size))) (
       cond (eqb r 11) (lutExportedOf Book) (
       cond (eqb r 12) (curveExportedOf Book) (
-      cond (eqb r 13) (viewExported (lutExportedOf Crate) (tagOf profile (job .offset) (job .size)) behind index) absent))))))))))))
+      cond (eqb r 13) (viewExported (lutExportedOf Crate) (countedTag profile (job .offset) (job .size)) behind index) absent))))))))))))
 
   -- the lent words after the call: the readers of lookup tables and of text write there
   unfoldable pub wordsAfter : List ℕ

@@ -32,7 +32,7 @@ unfoldable pub wordsText : Bool → Layout → ℕ → List ℕ → List ℕ
 wordsText several l first ws =
     cond several
     (nameText first ++ rowFrom (wordText (l .from) (l .to)) 1 (drop 1 ws))
-    (rowFrom (wordText (l .from) (l .to)) 0 (drop 0 ws))
+    (rowFrom (wordText (l .from) (l .to)) 0 ws)
 
 -- what was told, the words of a value by the layout that the first of them tells
 unfoldable pub exportedText : Bool → (ℕ → Layout) → Exported → List ℕ

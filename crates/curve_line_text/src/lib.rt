@@ -7,6 +7,7 @@ use export_words::VALUE;
 use fields::InTag;
 ghost use mathlib.Core.Path.{_≡_};
 ghost use lib.ListN.{length};
+ghost use Rattle.export_curve.specs.Layout.{curveLayout};
 ghost use Rattle.lines.specs.Text.{Wrote};
 ghost use Rattle.curve_line_text.specs.CurveLine.{jobOf, exportedText, textOf};
 
@@ -44,7 +45,7 @@ pub fn read_curve_job(job: &[u8]) -> CurveJob
 
 // Writes the text of what was told from the start of `out` on.
 fn put_exported(out: &mut [u8], status: u32, words: &[u64]) -> usize
-    requires { ⌜ length (now words) ≡ 11 ⌝ }
+    requires { ⌜ length (now words) ≡ curveLayout .words ⌝ }
     ensures { λ r. ⌜ Wrote (now (out .entry)) (now (out .exit)) 0 r (exportedText record { status = status; words = now (words .entry) }) ⌝ }
 {
     if status == VALUE {

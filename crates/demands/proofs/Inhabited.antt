@@ -28,7 +28,7 @@ use Rattle.lut_mft_meaning.specs.Mft.{mftOf}
 use Rattle.lut_mft_meaning.proofs.Refuses.{mft-refuses}
 use Rattle.lut_meaning.specs.Abm.{valueOf, abmOf}
 use Rattle.lut_meaning.specs.Answer.{State, Answer as Lut·Answer, stateFrom, inNumbers as Lut·inNumbers, mftState}
-use Rattle.lut_meaning.specs.Lut.{lutOf, byType as Lut·byType, isAbm, tagOf as Lut·tagOf}
+use Rattle.lut_meaning.specs.Lut.{lutOf, byType as Lut·byType, isAbm}
 use Rattle.lut_meaning.proofs.Found.{ways-out}
 use Rattle.lut_meaning.proofs.Refuses.{part-refuses}
 use Rattle.lut_meaning.proofs.Unique.{answerTo, lutTo}
@@ -104,7 +104,7 @@ mft-stands points t = by (mftOf points t) (mft-refuses Known refl refl refl refl
 lut-stands : (walk : Walk) (limit points : ℕ) (p : List ℕ) (at size words : ℕ) → StandsOf (lutOf walk limit points p at size words)
 unfolding Stands lutOf Lut·byType
 lut-stands walk limit points p at size words =
-    let t = Lut·tagOf p at size in
+    let t = countedTag p at size in
     each StandsOf (ltb (length p) (at + countedSize size)) _ _ (λ _. refl)
     (λ _. each StandsOf (ltb (countedSize size) shortest) _ _ (λ _. refl)
     (λ _. each StandsOf (isMft t) _ _ (λ _. mft-stands points t)

@@ -16,7 +16,7 @@ use Rattle.icc.specs.Tables.{Lut, nine, Sized, Entries16, lut16Type, lut8Type}
 use Rattle.icc.specs.Text.{Ascii, terminated, textType, Description, IsDescription, textDescriptionType, LocalizedTag}
 use Rattle.fields.specs.Bytes.{u16At, u32At, wordsAt}
 use Rattle.fields.specs.House.{tagSize}
-use Rattle.fields.specs.Place.{tagAt, countedSize}
+use Rattle.fields.specs.Place.{tagAt, countedTag}
 use Rattle.fields.specs.Refusals.{IsRefusal, pastProfile, tooManyEntries, curveRunsOut, tooFewSlots, tooManyPoints}
 use Rattle.fields.specs.Tag.{signatureOf}
 use Rattle.fields.specs.declared.Kind.the-variants.{Mab, Mba, Mft1, Mft2}
@@ -51,7 +51,7 @@ use Rattle.demands.specs.Readers.{refused, Library, ends, Promised, answ
 
 -- the bytes of the tag in lookup tables and text, where a size of 0 counts as the shortest tag's, and that they lie in the profile
 abbrev pub tag : Call → List ℕ
-tag c = tagAt (c .profile) (c .entry) (countedSize (c .size))
+tag c = countedTag (c .profile) (c .entry) (c .size)
 
 abbrev pub TagInside : Call → Type 0
 TagInside c = TextTagInside (c .profile) (c .entry) (c .size)

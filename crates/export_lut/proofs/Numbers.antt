@@ -12,7 +12,7 @@ use lib.ListN.{length, getD, replicate, length-append}
 use lib.Seq.{getD-append-add}
 use Rattle.icc.specs.Numbers.{Bytes}
 use Rattle.fields.specs.Bytes.{bytesAt, wordsAt}
-use Rattle.fields.specs.Place.{countedSize}
+use Rattle.fields.specs.Place.{countedSize, countedTag}
 use Rattle.fields.specs.Tag.{signatureOf}
 use Rattle.fields.proofs.Words.{bytes-length, words-length}
 use Rattle.fields.proofs.Written.{part-bytes}
@@ -21,7 +21,7 @@ use Rattle.lut_mft_meaning.specs.Answer.{Fields}
 use Rattle.lut_meaning.specs.Abm.{valueOf}
 use Rattle.lut_meaning.specs.Answer.{Abm, State, mft, abm, absent, refused, Answer}
 use Rattle.lut_meaning.specs.Layout.{matrixOffset, biasFrom, clutOffset, identity, matrixOf, biasOf, gridOf}
-use Rattle.lut_meaning.specs.Lut.{tagOf, lutOf}
+use Rattle.lut_meaning.specs.Lut.{lutOf}
 use Rattle.lut_meaning.proofs.Found.{IsValue, abm-found}
 use Rattle.lut_meaning.proofs.Inside.{GridTold, lut-inside, mft-inside}
 use Rattle.lut_clut_meaning.specs.Table.{Table}
@@ -100,7 +100,7 @@ size-below t table grid b (inr e) = rw (e .2) (b (clutOffset t + 16))
 
 module _ (walk : Walk) (limit points : ℕ) (p : List ℕ) (entry size words : ℕ) (bytes : Bytes p) where
   abbrev t : List ℕ
-  t = tagOf p entry size
+  t = countedTag p entry size
 
   abbrev answer : Answer
   answer = lutOf walk limit points p entry size words

@@ -49,23 +49,23 @@ among-signed l o at end from to i w k h g e v = rw (le-ltb _ _ h, lt-leb _ _ g) 
 -- ---- the loop that writes a row: what is left to write makes the whole
 
 module _ (text : ℕ → ℕ → List ℕ) where
-  pub record Going (l : List ℕ) (at first : ℕ) (ws m : List ℕ) (end i : ℕ) : Type 0 where
+  pub record Printing (l : List ℕ) (at first : ℕ) (ws m : List ℕ) (end i : ℕ) : Type 0 where
     pub same : length m ≡ length l
     pub whole : {n : List ℕ} {r : ℕ} → Wrote m n end r (rowFrom text i (drop i ws)) → Wrote l n at r (rowFrom text first (drop first ws))
 
-  pub row-begins : (l : List ℕ) (at first : ℕ) (ws : List ℕ) → Going l at first ws l at first
+  pub row-begins : (l : List ℕ) (at first : ℕ) (ws : List ℕ) → Printing l at first ws l at first
   row-begins l at first ws = record { same = refl; whole = λ w. w }
 
-  pub row-turns : (l : List ℕ) (at first : ℕ) (ws m : List ℕ) (end i : ℕ) (n : List ℕ) (next : ℕ) → Going l at first ws m end i → i < length ws → Wrote m n end next (text i (getD ws i 0)) → Going l at first ws n next (i + 1)
+  pub row-turns : (l : List ℕ) (at first : ℕ) (ws m : List ℕ) (end i : ℕ) (n : List ℕ) (next : ℕ) → Printing l at first ws m end i → i < length ws → Wrote m n end next (text i (getD ws i 0)) → Printing l at first ws n next (i + 1)
   unfolding rowFrom
   row-turns l at first ws m end i n next g h v =
       let d : drop i ws ≡ getD ws i 0 ∷ drop (i + 1) ws = drop-cons ws i 0 h ∙ ap (λ (k : ℕ). getD ws i 0 ∷ drop k ws) (sym (add-one i)) in
       record { same = wrote-length v ∙ g .same; whole = λ w. g .whole (rw d (joined v w)) }
 
-  pub row-ends : (l : List ℕ) (at first : ℕ) (ws m : List ℕ) (end i : ℕ) → Going l at first ws m end i → length ws ≤ i → Wrote l m at end (rowFrom text first (drop first ws))
+  pub row-ends : (l : List ℕ) (at first : ℕ) (ws m : List ℕ) (end i : ℕ) → Printing l at first ws m end i → length ws ≤ i → Wrote l m at end (rowFrom text first (drop first ws))
   unfolding rowFrom
   row-ends l at first ws m end i g h = g .whole (rw (drop-of-length-le ws {i = i} h) (nothing m end))
 
   -- of a row from its first word on
-  pub row-ends-all : (l : List ℕ) (at : ℕ) (ws m : List ℕ) (end i : ℕ) → Going l at 0 ws m end i → length ws ≤ i → Wrote l m at end (rowFrom text 0 ws)
+  pub row-ends-all : (l : List ℕ) (at : ℕ) (ws m : List ℕ) (end i : ℕ) → Printing l at 0 ws m end i → length ws ≤ i → Wrote l m at end (rowFrom text 0 ws)
   row-ends-all l at ws m end i g h = row-ends l at 0 ws m end i g h

@@ -11,7 +11,7 @@ use borrow.Author.Tests.{eq-eqb, ne-eqb, lt-ltb, le-ltb}
 use Rattle.fields.proofs.Never.{never}
 use Rattle.fields.specs.Checked.{Checked, good, bad}
 use Rattle.fields.specs.Bytes.{u32At}
-use Rattle.fields.specs.Place.{placeOf, countedSize}
+use Rattle.fields.specs.Place.{placeOf, countedSize, countedTag}
 use Rattle.fields.specs.Refusals.{refusalNumber}
 use Rattle.fields.specs.Tag.{signatureOf}
 use Rattle.fields.specs.declared.Kind.the-variants.{Mab, Mba}
@@ -36,7 +36,7 @@ use Rattle.lut_run_meaning.specs.Run.{recordsOf}
 use Rattle.lut_meaning.specs.Abm.{valueOf, abmOf}
 use Rattle.lut_meaning.specs.Answer.{mft, abm, refused, Answer, none, refuse, orRefused, mftState, fromMft, inNumbers, slotsWith}
 use Rattle.lut_meaning.specs.Layout.{toPcs, inputs, outputs, clutOffset, recordsNeeded, gridOf, matrixOf, biasOf}
-use Rattle.lut_meaning.specs.Lut.{AnswerAndSlots, tagOf, isAbm, byType, lutOf}
+use Rattle.lut_meaning.specs.Lut.{AnswerAndSlots, isAbm, byType, lutOf}
 use Rattle.lut_meaning.specs.Parts.{matrixChecked, tableIn, colourTableOf, runA, runM, runB, ended, RunsWhole, curvesOf}
 use Rattle.lut.specs.Passed.{Opened, TableGood}
 use Rattle.lut.specs.Runs.{RunsOf, andThen, runsChecked}
@@ -222,18 +222,18 @@ module _ (walk : Walk) (limit points : ℕ) (t s : List ℕ) (b : Bool) (h : b �
 -- ---- the tag in its profile
 
 module _ (walk : Walk) (limit points : ℕ) (p s : List ℕ) (entry size end : ℕ) (n : end ≡ countedSize size) (place : Place) (h : place ≡ placeOf (length p) entry end) (r : Lut) where
-  pub lut-past : place ≡ Past → inNumbers r ≡ refuse 1 → AnswerAndSlots walk limit (tagOf p entry size) (lutOf walk limit points p entry size (length s)) r s s
+  pub lut-past : place ≡ Past → inNumbers r ≡ refuse 1 → AnswerAndSlots walk limit (countedTag p entry size) (lutOf walk limit points p entry size (length s)) r s s
   unfolding lutOf
   lut-past e g = refusing walk limit _ s _ r 1 (rw (← n, lt-ltb _ _ (past _ _ _ h e))) g
 
   module _ (from to : ℕ) (e : place ≡ In from to) where
-    pub lut-short : end < shortest → inNumbers r ≡ refuse 2 → AnswerAndSlots walk limit (tagOf p entry size) (lutOf walk limit points p entry size (length s)) r s s
+    pub lut-short : end < shortest → inNumbers r ≡ refuse 2 → AnswerAndSlots walk limit (countedTag p entry size) (lutOf walk limit points p entry size (length s)) r s s
     unfolding lutOf
     lut-short l g = let i = inside _ _ _ h e in refusing walk limit _ s _ r 2 (rw (← n, le-ltb _ _ (i .fits), lt-ltb _ _ l)) g
 
-    pub lut-kind : shortest ≤ end → (s' : List ℕ) → AnswerAndSlots walk limit (take (to - from) (drop from p)) (byType walk limit points (take (to - from) (drop from p)) (length s)) r s s' → AnswerAndSlots walk limit (tagOf p entry size) (lutOf walk limit points p entry size (length s)) r s s'
+    pub lut-kind : shortest ≤ end → (s' : List ℕ) → AnswerAndSlots walk limit (take (to - from) (drop from p)) (byType walk limit points (take (to - from) (drop from p)) (length s)) r s s' → AnswerAndSlots walk limit (countedTag p entry size) (lutOf walk limit points p entry size (length s)) r s s'
     unfolding lutOf
     lut-kind l s' g =
         let i = inside _ _ _ h e in
-        let same-tag : take (to - from) (drop from p) ≡ tagOf p entry size = rw (i .from-is, i .to-is, part-is p entry end, n) in
+        let same-tag : take (to - from) (drop from p) ≡ countedTag p entry size = rw (i .from-is, i .to-is, part-is p entry end, n) in
         same walk limit _ s _ r _ s' (rw (← n, le-ltb _ _ (i .fits), le-ltb _ _ l, n)) (rw same-tag at g)

@@ -16,7 +16,8 @@ pub use nested::RECORD_WORDS;
 ghost use mathlib.Core.Path.{_≡_};
 ghost use lib.ListN.{length};
 ghost use Prim.Native.Nat.{_^_, _<_};
-ghost use Rattle.lut_meaning.specs.Lut.{AnswerAndSlots, tagOf, isAbm, byType, lutOf};
+ghost use Rattle.fields.specs.Place.{countedTag};
+ghost use Rattle.lut_meaning.specs.Lut.{AnswerAndSlots, isAbm, byType, lutOf};
 
 // The shortest tag of a lookup table.
 const SHORTEST: u32 = 48;
@@ -58,7 +59,7 @@ pub fn read_lut_tag(
     walk: Walk,
     slots: &mut [u32],
 ) -> Lut
-    ensures { λ r. ⌜ AnswerAndSlots walk limit (tagOf (now (profile .entry)) (entry .0) size) (lutOf walk limit points (now (profile .entry)) (entry .0) size (length (now (slots .entry)))) r (now (slots .entry)) (now (slots .exit)) ⌝ }
+    ensures { λ r. ⌜ AnswerAndSlots walk limit (countedTag (now (profile .entry)) (entry .0) size) (lutOf walk limit points (now (profile .entry)) (entry .0) size (length (now (slots .entry)))) r (now (slots .entry)) (now (slots .exit)) ⌝ }
 {
     let end = fields::counted_size(size);
     let place = fields::locate(profile, entry, InTag(end as u64));

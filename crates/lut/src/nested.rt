@@ -14,6 +14,9 @@ ghost use Rattle.lut_run_meaning.specs.Run.{whole, aligned, curveAtOffset, runA
 ghost use Rattle.lut_meaning.specs.Parts.{ended};
 ghost use Rattle.lut.specs.Verdict.{verdictInNumbers, stepVerdict};
 
+// The bytes of a curve in front of its entries or parameters.
+const CURVE_HEAD: usize = 12;
+
 pub(crate) enum Verdict {
     Good,
     Refused(Refusal),
@@ -27,7 +30,7 @@ fn judge_at(tag: &[u8], at: InTag, limit: u64, walk: Walk) -> Step
     if tag.len() < from {
         return Step::Refused(Refusal::TagTooShort);
     }
-    if tag.len() - from < 12 {
+    if tag.len() - from < CURVE_HEAD {
         return Step::Refused(Refusal::TagTooShort);
     }
     curve::judge_curve(&tag[from..], limit, walk)
@@ -81,7 +84,7 @@ pub(crate) fn write_run(tag: &[u8], at: InTag, n: u32, limit: u64, walk: Walk, s
         let slot = i as usize * RECORD_WORDS;
         let got = curve::write_curve(
             &tag[from..],
-            (from + 12) as u32,
+            (from + CURVE_HEAD) as u32,
             limit,
             walk,
             &mut slots[slot..slot + RECORD_WORDS],

@@ -11,7 +11,7 @@ use lib.ListN.{length}
 use borrow.Author.Tests.{ltb-true, ltb-false, eqb-true}
 use Rattle.fields.proofs.Never.{never}
 use Rattle.fields.specs.Checked.{Checked, good, bad}
-use Rattle.fields.specs.Place.{countedSize}
+use Rattle.fields.specs.Place.{countedSize, countedTag}
 use Rattle.fields.specs.Bytes.{u32At}
 use Rattle.fields.specs.Tag.{signatureOf}
 use Rattle.fields.specs.declared.Kind.the-variants.{Mab, Mba}
@@ -25,7 +25,7 @@ use Rattle.lut_run_meaning.specs.Run.{runAt}
 use Rattle.lut_meaning.specs.Abm.{valueOf, abmOf}
 use Rattle.lut_meaning.specs.Answer.{Abm, State, mft, abm, absent, refused, Answer, none, refuse, fromMft, orRefused}
 use Rattle.lut_meaning.specs.Layout.{inputs, outputs, aOffset, mOffset, bOffset, aCurves, mCurves, bCurves, recordsNeeded}
-use Rattle.lut_meaning.specs.Lut.{tagOf, isAbm, byType, lutOf}
+use Rattle.lut_meaning.specs.Lut.{isAbm, byType, lutOf}
 use Rattle.lut_meaning.specs.Parts.{matrixChecked, tableIn, colourTableOf, runA, runM, runB, ended, RunsWhole}
 use Rattle.lut_meaning.proofs.Shared.{ended-good, table-in}
 
@@ -105,7 +105,7 @@ module _ (walk : Walk) (limit : ℕ) (t : List ℕ) where
 
 module _ (walk : Walk) (limit points : ℕ) (p : List ℕ) (entry size words : ℕ) where
   abbrev FoundIn : Answer → Type 0
-  FoundIn a = IsValue (a .state) → (entry + countedSize size ≤ length p) × (shortest ≤ countedSize size) × (a ≡ byType walk limit points (tagOf p entry size) words)
+  FoundIn a = IsValue (a .state) → (entry + countedSize size ≤ length p) × (shortest ≤ countedSize size) × (a ≡ byType walk limit points (countedTag p entry size) words)
 
   pub in-profile : FoundIn (lutOf walk limit points p entry size words)
   unfolding lutOf
@@ -170,30 +170,30 @@ module _ (walk : Walk) (limit points : ℕ) (p : List ℕ) (entry size words : �
   pub record AbmFound : Type 0 where
     pub tag-in-profile : entry + countedSize size ≤ length p
     pub long : shortest ≤ countedSize size
-    pub type-is : (u32At (tagOf p entry size) 0 ≡ signatureOf Mab) ⊎ (u32At (tagOf p entry size) 0 ≡ signatureOf Mba)
-    pub as-abm : answer ≡ abmOf walk limit (tagOf p entry size) words
-    pub behind : Accepted walk limit (tagOf p entry size) words (abmOf walk limit (tagOf p entry size) words)
+    pub type-is : (u32At (countedTag p entry size) 0 ≡ signatureOf Mab) ⊎ (u32At (countedTag p entry size) 0 ≡ signatureOf Mba)
+    pub as-abm : answer ≡ abmOf walk limit (countedTag p entry size) words
+    pub behind : Accepted walk limit (countedTag p entry size) words (abmOf walk limit (countedTag p entry size) words)
 
   pub abm-found : (f : Abm) → answer .state ≡ abm f → AbmFound
   abm-found f h =
       let v = in-profile walk limit points p entry size words (abm-value h) in
-      let w = by-abm walk limit points (tagOf p entry size) words f (ap (λ (a : Answer). a .state) (sym (v .2)) ∙ h) in
+      let w = by-abm walk limit points (countedTag p entry size) words f (ap (λ (a : Answer). a .state) (sym (v .2)) ∙ h) in
       let e = v .2 ∙ w .1 in
       record {
         tag-in-profile = v .0;
         long = v .1;
         type-is = w .0;
         as-abm = e;
-        behind = accepted walk limit (tagOf p entry size) words (abm-value (ap (λ (a : Answer). a .state) (sym e) ∙ h));
+        behind = accepted walk limit (countedTag p entry size) words (abm-value (ap (λ (a : Answer). a .state) (sym e) ∙ h));
       }
 
   pub record MftFound (f : Fields) : Type 0 where
     pub tag-in-profile : entry + countedSize size ≤ length p
-    pub read-as : mftOf points (tagOf p entry size) ≡ Mft·State.value f
-    pub as-mft : answer ≡ fromMft (answerOf (tagOf p entry size) (mftOf points (tagOf p entry size)))
+    pub read-as : mftOf points (countedTag p entry size) ≡ Mft·State.value f
+    pub as-mft : answer ≡ fromMft (answerOf (countedTag p entry size) (mftOf points (countedTag p entry size)))
 
   pub mft-found : (f : Fields) → answer .state ≡ mft f → MftFound f
   mft-found f h =
       let v = in-profile walk limit points p entry size words (mft-value h) in
-      let w = by-mft walk limit points (tagOf p entry size) words f (ap (λ (a : Answer). a .state) (sym (v .2)) ∙ h) in
+      let w = by-mft walk limit points (countedTag p entry size) words f (ap (λ (a : Answer). a .state) (sym (v .2)) ∙ h) in
       record { tag-in-profile = v .0; read-as = w .0; as-mft = v .2 ∙ w .1 }

@@ -14,7 +14,7 @@ use borrow.Author.Tests.{ltb-false, eqb-true, eqb-false, eq-eqb, ne-eqb}
 use Rattle.icc.specs.Each.{Each}
 use Rattle.fields.proofs.Never.{never}
 use Rattle.fields.specs.Checked.{Checked, good}
-use Rattle.fields.specs.Place.{countedSize}
+use Rattle.fields.specs.Place.{countedSize, countedTag}
 use Rattle.fields.specs.Bytes.{u32At, bytesAt, wordsAt}
 use Rattle.fields.specs.Tag.{signatureOf}
 use Rattle.fields.specs.declared.Kind.the-variants.{Mab, Mba}
@@ -33,7 +33,7 @@ use Rattle.lut_run_meaning.proofs.Runs.{run-inside}
 use Rattle.lut_meaning.specs.Abm.{valueOf, toldTable}
 use Rattle.lut_meaning.specs.Answer.{Abm, mft, abm, Answer}
 use Rattle.lut_meaning.specs.Layout.{recordsNeeded, toPcs, inputs, outputs, matrixOffset, matrixBytes, biasFrom, clutOffset, aOffset, mOffset, bOffset, aCurves, mCurves, bCurves, identity, matrixOf, biasOf, gridOf}
-use Rattle.lut_meaning.specs.Lut.{tagOf, lutOf}
+use Rattle.lut_meaning.specs.Lut.{lutOf}
 use Rattle.lut_meaning.specs.Parts.{matrixChecked, noTable, tableIn, colourTableOf, curvesOf}
 use Rattle.lut_meaning.proofs.Found.{abm-found, mft-found}
 use Rattle.lut_meaning.proofs.Needed.{needed-curves}
@@ -142,24 +142,24 @@ direction-told t (inr e) = inr (e, ne-eqb (u32At t 0) (signatureOf Mab) (λ z. o
 -- ---- `mAB ` and `mBA `, told of the answer's own numbers
 pub record Inside (walk : Walk) (limit : ℕ) (p : List ℕ) (entry size : ℕ) (a : Answer) (f : Abm) : Type 0 where
   pub tag-in-profile : entry + countedSize size ≤ length p
-  pub curves-in-tag : Each (CurveStands limit (tagOf p entry size)) (curvesOf walk limit (tagOf p entry size))
-  pub curves-counted : length (curvesOf walk limit (tagOf p entry size)) ≡ f .a + f .m + f .b
-  pub direction-is : DirectionTold (tagOf p entry size) (f .toPcs)
-  pub inputs-are : f .inputs ≡ inputs (tagOf p entry size)
-  pub outputs-are : f .outputs ≡ outputs (tagOf p entry size)
-  pub matrix-is : MatrixTold (tagOf p entry size) (a .matrix) (a .bias)
+  pub curves-in-tag : Each (CurveStands limit (countedTag p entry size)) (curvesOf walk limit (countedTag p entry size))
+  pub curves-counted : length (curvesOf walk limit (countedTag p entry size)) ≡ f .a + f .m + f .b
+  pub direction-is : DirectionTold (countedTag p entry size) (f .toPcs)
+  pub inputs-are : f .inputs ≡ inputs (countedTag p entry size)
+  pub outputs-are : f .outputs ≡ outputs (countedTag p entry size)
+  pub matrix-is : MatrixTold (countedTag p entry size) (a .matrix) (a .bias)
   pub table : Table
-  pub grid-is : GridTold (tagOf p entry size) table (a .grid)
+  pub grid-is : GridTold (countedTag p entry size) table (a .grid)
   pub start-is : f .start ≡ table .start
   pub bytes-are : f .bytes ≡ lengthOf table
   pub size-is : f .size ≡ table .size
-  pub table-in-tag : f .start + f .bytes ≤ length (tagOf p entry size)
+  pub table-in-tag : f .start + f .bytes ≤ length (countedTag p entry size)
   pub entry-in-table : 1 ≤ f .size → (index : List ℕ) (channel : ℕ) → inGrid (toldTable (a .grid) f .grid) index ≡ true → channel < f .outputs → entryNumber (toldTable (a .grid) f) index channel * f .size + f .size ≤ f .bytes
 
 pub lut-inside : (walk : Walk) (limit points : ℕ) (p : List ℕ) (entry size words : ℕ) (f : Abm) → lutOf walk limit points p entry size words .state ≡ abm f → Inside walk limit p entry size (lutOf walk limit points p entry size words) f
 unfolding valueOf recordsNeeded
 lut-inside walk limit points p entry size words f h =
-    let t : List ℕ = tagOf p entry size in
+    let t : List ℕ = countedTag p entry size in
     let w = abm-found walk limit points p entry size words f h in
     let v = w .behind .parts-good in
     let table : Table = tableIn t in
@@ -199,8 +199,8 @@ lut-inside walk limit points p entry size words f h =
 
 -- ---- `mft1` and `mft2`
 
-pub mft-inside : (walk : Walk) (limit points : ℕ) (p : List ℕ) (entry size words : ℕ) (f : Fields) → lutOf walk limit points p entry size words .state ≡ mft f → (entry + countedSize size ≤ length p) × MftInside (tagOf p entry size) f × (lutOf walk limit points p entry size words ≡ record { state = mft f; grid = replicate 16 0; matrix = wordsAt (tagOf p entry size) 12 9; bias = replicate 3 0 })
+pub mft-inside : (walk : Walk) (limit points : ℕ) (p : List ℕ) (entry size words : ℕ) (f : Fields) → lutOf walk limit points p entry size words .state ≡ mft f → (entry + countedSize size ≤ length p) × MftInside (countedTag p entry size) f × (lutOf walk limit points p entry size words ≡ record { state = mft f; grid = replicate 16 0; matrix = wordsAt (countedTag p entry size) 12 9; bias = replicate 3 0 })
 unfolding answerOf
 mft-inside walk limit points p entry size words f h =
     let w = mft-found walk limit points p entry size words f h in
-    (w .tag-in-profile, inside-mft points (tagOf p entry size) f (w .read-as), w .as-mft ∙ rw (w .read-as))
+    (w .tag-in-profile, inside-mft points (countedTag p entry size) f (w .read-as), w .as-mft ∙ rw (w .read-as))

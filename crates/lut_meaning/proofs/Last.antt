@@ -11,7 +11,7 @@ use lib.ListN.{length}
 use borrow.Author.Tests.{ltb-false, le-ltb}
 use Rattle.fields.proofs.Never.{never}
 use Rattle.fields.specs.Checked.{bad}
-use Rattle.fields.specs.Place.{countedSize}
+use Rattle.fields.specs.Place.{countedSize, countedTag}
 use Rattle.fields.proofs.Choice.{each}
 use Rattle.lut_clut_meaning.proofs.Refuses.{Only}
 use Rattle.curve_meaning.specs.Curve.{curveOf}
@@ -25,7 +25,7 @@ use Rattle.lut_mft_meaning.proofs.Refuses.{mft-refuses}
 use Rattle.lut_meaning.specs.Abm.{valueOf, abmOf}
 use Rattle.lut_meaning.specs.Answer.{State, refused, Answer, fromMft}
 use Rattle.lut_meaning.specs.Layout.{recordsNeeded}
-use Rattle.lut_meaning.specs.Lut.{tagOf, isAbm, byType, lutOf}
+use Rattle.lut_meaning.specs.Lut.{isAbm, byType, lutOf}
 use Rattle.lut_meaning.specs.Parts.{ended}
 use Rattle.lut_meaning.proofs.Found.{IsValue, AllGood, PartRefused, ways-out}
 use Rattle.lut_meaning.proofs.Refuses.{part-refuses}
@@ -54,7 +54,7 @@ mft-other points t = by (mftOf points t) (mft-refuses Other (λ z. omega arith) 
 
 module _ (walk : Walk) (limit points : ℕ) (p : List ℕ) (entry size words : ℕ) where
   abbrev t : List ℕ
-  t = tagOf p entry size
+  t = countedTag p entry size
 
   pub record Short : Type 0 where
     pub tag-in-profile : entry + countedSize size ≤ length p

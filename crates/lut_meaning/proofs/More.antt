@@ -13,7 +13,7 @@ use lib.Seq.{drop-append-le}
 use borrow.Author.Tests.{ltb-false, le-ltb}
 use Rattle.fields.proofs.Never.{never}
 use Rattle.fields.specs.Checked.{Checked, good, bad}
-use Rattle.fields.specs.Place.{countedSize}
+use Rattle.fields.specs.Place.{countedSize, countedTag}
 use Rattle.fields.proofs.Append.{longer, part-append}
 use Rattle.fields.proofs.Grow.{Grows, choose, passes}
 use Rattle.curve_meaning.specs.Shape.{recordWords}
@@ -27,7 +27,7 @@ use Rattle.lut_run_meaning.proofs.Limit.{Over, run-limit}
 use Rattle.lut_meaning.specs.Abm.{abmOf}
 use Rattle.lut_meaning.specs.Answer.{State, mft, abm, absent, refused, Answer, fromMft, orRefused, slotsWith}
 use Rattle.lut_meaning.specs.Layout.{inputs, outputs, aOffset, mOffset, bOffset, aCurves, mCurves, bCurves, recordsNeeded}
-use Rattle.lut_meaning.specs.Lut.{tagOf, isAbm, byType, lutOf, slotsAfter}
+use Rattle.lut_meaning.specs.Lut.{isAbm, byType, lutOf, slotsAfter}
 use Rattle.lut_meaning.specs.Parts.{matrixChecked, colourTableOf, runA, runM, runB, ended, RunsWhole, curvesOf}
 use Rattle.lut_meaning.proofs.Found.{IsValue, not-refused, abm-found}
 use Rattle.lut_meaning.proofs.Shared.{all-length}
@@ -45,7 +45,7 @@ more-bytes walk limit points p q entry size words =
     (λ e. choose (Is 1) (ltb (countedSize size) shortest) (λ _. inr refl)
     (λ _. rw (part-append p q entry (countedSize size) (ltb-false (length p) (entry + countedSize size) e)) (inr refl)))
 
-same-tag : (p q : List ℕ) (entry size : ℕ) → entry + countedSize size ≤ length p → tagOf (p ++ q) entry size ≡ tagOf p entry size
+same-tag : (p q : List ℕ) (entry size : ℕ) → entry + countedSize size ≤ length p → countedTag (p ++ q) entry size ≡ countedTag p entry size
 same-tag p q entry size h = part-append p q entry (countedSize size) h
 
 -- ---- a higher limit
@@ -73,7 +73,7 @@ module _ (n : ℕ) (walk : Walk) (low high : ℕ) (points more : ℕ) (few many 
   unfolding lutOf
   lut-grows p entry size =
       choose (Is n) (ltb (length p) (entry + countedSize size)) (λ _. inr refl)
-      (λ _. choose (Is n) (ltb (countedSize size) shortest) (λ _. inr refl) (λ _. type-grows (tagOf p entry size)))
+      (λ _. choose (Is n) (ltb (countedSize size) shortest) (λ _. inr refl) (λ _. type-grows (countedTag p entry size)))
 
 module _ (walk : Walk) (low high : ℕ) (h : low ≤ high) (points : ℕ) where
   abm-limit : (words : ℕ) (t : List ℕ) → Grows (Is 10) (abmOf walk low t words) (abmOf walk high t words)
@@ -155,7 +155,7 @@ pub record Stays (walk : Walk) (low high : ℕ) (points more : ℕ) (p q : List 
 
 module _ (walk : Walk) (low high : ℕ) (l : low ≤ high) (points more : ℕ) (m : points ≤ more) (p q : List ℕ) (entry size : ℕ) (slots x : List ℕ) where
   abbrev t : List ℕ
-  t = tagOf p entry size
+  t = countedTag p entry size
 
   abbrev before-all : Answer
   before-all = lutOf walk low points p entry size (length slots)
@@ -172,7 +172,7 @@ module _ (walk : Walk) (low high : ℕ) (l : low ≤ high) (points more : ℕ) (
       let e₄ = kept _ _ 1 v₃ (more-bytes walk high more p q entry size (length (slots ++ x))) in
       e₄ ∙ e₃ ∙ e₂ ∙ e₁
 
-  slots-kept : (s : State) → before-all .state ≡ s → IsValue s → slotsWith s (recordsOf (curvesOf walk high (tagOf (p ++ q) entry size))) (slots ++ x) ≡ slotsWith s (recordsOf (curvesOf walk low t)) slots ++ x
+  slots-kept : (s : State) → before-all .state ≡ s → IsValue s → slotsWith s (recordsOf (curvesOf walk high (countedTag (p ++ q) entry size))) (slots ++ x) ≡ slotsWith s (recordsOf (curvesOf walk low t)) slots ++ x
   unfolding IsValue
   slots-kept (mft f) h v = refl
   slots-kept (abm f) h v =

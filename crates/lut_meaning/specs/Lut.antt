@@ -6,7 +6,7 @@ use mathlib.Core.List.{List}
 use lib.Dec.{ltb, eqb}
 use lib.ListN.{length}
 use Rattle.fields.specs.Bytes.{u32At}
-use Rattle.fields.specs.Place.{tagAt, countedSize}
+use Rattle.fields.specs.Place.{countedSize, countedTag}
 use Rattle.fields.specs.Tag.{signatureOf}
 use Rattle.fields.specs.declared.Kind.the-variants.{Mab, Mba}
 use Rattle.curve_meaning.specs.declared.Walk.{Walk}
@@ -18,9 +18,6 @@ use Rattle.lut_meaning.specs.Abm.{abmOf}
 use Rattle.lut_meaning.specs.Answer.{Answer, refuse, fromMft, inNumbers, slotsWith}
 use Rattle.lut_meaning.specs.Parts.{curvesOf}
 use Rattle.lut_meaning.specs.declared.Lut.{Lut}
-
-abbrev pub tagOf : List ℕ → ℕ → ℕ → List ℕ
-tagOf profile entry size = tagAt profile entry (countedSize size)
 
 -- whether it is lutAToBType or lutBToAType
 abbrev pub isAbm : List ℕ → Bool
@@ -38,12 +35,12 @@ unfoldable pub lutOf : Walk → ℕ → ℕ → List ℕ → ℕ → ℕ → ℕ
 lutOf walk limit points profile entry size words =
     cond (ltb (length profile) (entry + countedSize size)) (refuse 1) (
     cond (ltb (countedSize size) shortest) (refuse 2) (
-    byType walk limit points (tagOf profile entry size) words))
+    byType walk limit points (countedTag profile entry size) words))
 
 -- what such a call leaves of the lent slots
 abbrev pub slotsAfter : Walk → ℕ → ℕ → List ℕ → ℕ → ℕ → List ℕ → List ℕ
 slotsAfter walk limit points profile entry size slots =
-    let t = tagOf profile entry size in
+    let t = countedTag profile entry size in
     slotsWith (lutOf walk limit points profile entry size (length slots) .state) (recordsOf (curvesOf walk limit t)) slots
 
 -- what a call answers, and what it leaves of the lent slots

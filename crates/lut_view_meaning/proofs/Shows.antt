@@ -12,6 +12,7 @@ use lib.Dec.{eqb}
 use lib.ListN.{length, getD, take, drop, replicate, length-take}
 use lib.Seq.{take-take}
 use borrow.Author.Tests.{lt-ltb, le-ltb}
+use Rattle.fields.specs.Place.{countedTag}
 use Rattle.fields.specs.Checked.{good}
 use Rattle.fields.specs.Bytes.{bytesAt}
 use Rattle.fields.proofs.Words.{bytes-part}
@@ -26,7 +27,7 @@ use Rattle.lut_meaning.specs.Abm.{valueOf, toldTable}
 use Rattle.lut_meaning.specs.Parts.{noTable, tableIn, colourTableOf}
 use Rattle.lut_meaning.specs.Answer.{Abm, State, Answer, mft, abm, absent as State·absent, refused}
 use Rattle.lut_meaning.specs.Layout.{inputs, outputs, clutOffset, gridOf}
-use Rattle.lut_meaning.specs.Lut.{tagOf, lutOf}
+use Rattle.lut_meaning.specs.Lut.{lutOf}
 use Rattle.lut_meaning.proofs.Found.{abm-found, mft-found}
 use Rattle.lut_meaning.proofs.Inside.{lut-inside, mft-inside}
 use Rattle.lut_view_meaning.specs.Answer.{value, absent}
@@ -100,7 +101,7 @@ mft-sizes t = by (isWide t)
 -- the tag's size is a 32-bit value
 module _ (walk : Walk) (limit points : ℕ) (p : List ℕ) (entry size words : ℕ) (low-size : size < 2 ^ 32) where
   abbrev t : List ℕ
-  t = tagOf p entry size
+  t = countedTag p entry size
 
   abbrev answer : Answer
   answer = lutOf walk limit points p entry size words

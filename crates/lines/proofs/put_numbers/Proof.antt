@@ -5,7 +5,7 @@ use mathlib.Core.List.{List}
 use lib.ListN.{length}
 use borrow.Author.Needs.{needs}
 use Rattle.lines.specs.Text.{number, numbers}
-use Rattle.lines.proofs.Laws.{Going, row-begins, row-turns, row-ends-all}
+use Rattle.lines.proofs.Laws.{Printing, row-begins, row-turns, row-ends-all}
 use Rattle.lines.proofs.put_numbers.Statement.{statement}
 use Rattle.lines.proofs.put_numbers.Tie as tie
 
@@ -13,7 +13,7 @@ abbrev spaced : ℕ → ℕ → List ℕ
 spaced i n = number 32 n
 
 abbrev Inv-loop : tie.InvT-loop
-Inv-loop out₀ at words end₀ i₀ out end i = Going spaced out₀ at 0 words out end i
+Inv-loop out₀ at words end₀ i₀ out end i = Printing spaced out₀ at 0 words out end i
 
 abbrev μ-loop : tie.MeasureT-loop
 μ-loop out₀ at words end₀ i₀ out end i = length words - i
