@@ -17,9 +17,9 @@
 #endif
 
 /* the longest `out` of any function, and a few words behind it that must stay as they are */
-#define OUT_WORDS 37
+#define OUT_WORDS KHALYKSOR_LUT_WORDS
 #define OUT_BEHIND 3
-#define SLOT_WORDS (64 * 10)
+#define SLOT_WORDS (64 * KHALYKSOR_CURVE_RECORD_WORDS)
 #define SLOT_BEHIND 4
 #define PROFILE_BYTES 12288
 
@@ -398,8 +398,8 @@ static void call_lut(void) {
     uint64_t limit = any_limit(), points = any_limit();
     uint32_t walk = below(3);
     finish_tag(lut_tag());
-    lend_out(37);
-    lend_slots(10);
+    lend_out(KHALYKSOR_LUT_WORDS);
+    lend_slots(KHALYKSOR_CURVE_RECORD_WORDS);
     take(LUT, khalyksor_read_lut_tag(profile_or_null(), length, offset, size, limit, points, walk, slots_or_null(), slot_words, out_or_null(), out_words));
     take_slots(LUT);
 }
@@ -408,14 +408,14 @@ static void call_trc(void) {
     uint64_t limit = any_limit();
     uint32_t walk = below(3);
     finish_tag(trc_tag());
-    lend_out(11);
+    lend_out(KHALYKSOR_CURVE_WORDS);
     take(TRC, khalyksor_read_trc_tag(profile_or_null(), length, offset, size, limit, walk, out_or_null(), out_words));
 }
 
 static void call_string(void) {
     finish_tag(string_tag());
-    lend_out(6);
-    lend_slots(4);
+    lend_out(KHALYKSOR_STRING_WORDS);
+    lend_slots(KHALYKSOR_MLUC_RECORD_WORDS);
     take(STRING, khalyksor_read_string_tag(profile_or_null(), length, offset, size, slots_or_null(), slot_words, out_or_null(), out_words));
     take_slots(STRING);
 }
@@ -440,12 +440,12 @@ static void call_entry(void) {
     for (i = 0; i < OUT_WORDS; i++) lut[i] = UINT64_C(0xa5a5a5a500000000) + i;
     do {
         finish_tag(one_in(2) ? mft_tag() : abm_tag());
-        status = khalyksor_read_lut_tag(profile, length, offset, size, 4096, 1000000, below(2), slots, SLOT_WORDS, lut, OUT_WORDS);
+        status = khalyksor_read_lut_tag(profile, length, offset, size, KHALYKSOR_HOUSE_LIMIT, KHALYKSOR_HOUSE_POINTS, below(2), slots, SLOT_WORDS, lut, OUT_WORDS);
     } while (status != KHALYKSOR_VALUE);
     tag = profile + offset;
     tag_length = size;
-    inputs = (uint32_t)lut[1];
-    outputs = (uint32_t)lut[2];
+    inputs = (uint32_t)lut[KHALYKSOR_LUT_INPUTS];
+    outputs = (uint32_t)lut[KHALYKSOR_LUT_OUTPUTS];
     for (i = 0; i < sizeof index; i++) index[i] = (uint8_t)(one_in(64) ? below(256) : one_in(16) ? below(4) : below(2));
     coordinates = one_in(16) ? below(sizeof index + 1) : inputs < sizeof index ? inputs : sizeof index;
     if (one_in(8)) {
@@ -461,7 +461,7 @@ static void call_entry(void) {
     if (one_in(16)) lut_words = below(OUT_WORDS);
     if (one_in(16)) tag_length = below((uint32_t)tag_length + 1);
     channel = (uint8_t)(one_in(16) ? below(256) : below(outputs > 0 ? outputs : 1));
-    lend_out(1);
+    lend_out(KHALYKSOR_ENTRY_WORDS);
     take(ENTRY, khalyksor_entry_at(tag, tag_length, lut, lut_words, index, coordinates, channel, out_or_null(), out_words));
 }
 
@@ -482,13 +482,13 @@ static void run(uint32_t rounds) {
         call_lut();
         call_trc();
         call_string();
-        call_small(CHAD, khalyksor_read_chad_tag, "sf32", one_in(4) ? between(40, 50) : 44, 9);
-        call_small(TECH, khalyksor_read_tech_tag, "sig ", 12, 1);
-        call_small(DATE, khalyksor_read_date_time_tag, "dtim", 20, 12);
-        call_small(MEAS, khalyksor_read_meas_tag, "meas", 36, 7);
-        call_small(VIEW, khalyksor_read_viewing_conditions, "view", 36, 7);
-        call_small(XYZ, khalyksor_read_xyz_tag, "XYZ ", 20, 3);
-        call_small(CICP, khalyksor_read_cicp_tag, "cicp", 12, 4);
+        call_small(CHAD, khalyksor_read_chad_tag, "sf32", one_in(4) ? between(40, 50) : 44, KHALYKSOR_CHAD_WORDS);
+        call_small(TECH, khalyksor_read_tech_tag, "sig ", 12, KHALYKSOR_SIG_WORDS);
+        call_small(DATE, khalyksor_read_date_time_tag, "dtim", 20, KHALYKSOR_DATE_WORDS);
+        call_small(MEAS, khalyksor_read_meas_tag, "meas", 36, KHALYKSOR_MEAS_WORDS);
+        call_small(VIEW, khalyksor_read_viewing_conditions, "view", 36, KHALYKSOR_VIEW_WORDS);
+        call_small(XYZ, khalyksor_read_xyz_tag, "XYZ ", 20, KHALYKSOR_XYZ_WORDS);
+        call_small(CICP, khalyksor_read_cicp_tag, "cicp", 12, KHALYKSOR_CICP_WORDS);
         call_entry();
         call_range();
         call_version();
