@@ -23,7 +23,7 @@
 // of mft1 or mft2 may have. 0 is a limit of none at all, not `no limit`.
 //
 // Nothing is allocated, kept between calls or printed, and there are no floats. Threads may call all functions at once,
-// also on one profile.
+// also on one profile. Of a C library nothing is called but, on some targets, memcpy and memset.
 #![allow(dead_code)]
 
 // The version of this file. khalyksor_version() tells that of the library.
