@@ -281,6 +281,57 @@ static int put_cicp(const Job *job)
     return KHALYKSOR_CICP_RANGE + 1;
 }
 
+/* ---- the records in the slots, each word by its name; answers how many words they take */
+
+static uint32_t put_curve_records(void)
+{
+    uint64_t count = out[KHALYKSOR_MAB_A_CURVES] + out[KHALYKSOR_MAB_M_CURVES] + out[KHALYKSOR_MAB_B_CURVES];
+    uint32_t at = 0;
+    for (; count > 0; count--) {
+        put(words[at + KHALYKSOR_CURVE_KIND]);
+        put(words[at + KHALYKSOR_CURVE_START]);
+        put(words[at + KHALYKSOR_CURVE_COUNT]);
+        put(words[at + KHALYKSOR_CURVE_G]);
+        put(words[at + KHALYKSOR_CURVE_A]);
+        put(words[at + KHALYKSOR_CURVE_B]);
+        put(words[at + KHALYKSOR_CURVE_C]);
+        put(words[at + KHALYKSOR_CURVE_D]);
+        put(words[at + KHALYKSOR_CURVE_E]);
+        put(words[at + KHALYKSOR_CURVE_F]);
+        at += KHALYKSOR_CURVE_RECORD_WORDS;
+    }
+    return at;
+}
+
+static uint32_t put_string_records(void)
+{
+    uint64_t count = out[KHALYKSOR_MLUC_RECORDS];
+    uint32_t at = 0;
+    for (; count > 0; count--) {
+        put(words[at + KHALYKSOR_MLUC_RECORD_LANGUAGE]);
+        put(words[at + KHALYKSOR_MLUC_RECORD_COUNTRY]);
+        put(words[at + KHALYKSOR_MLUC_RECORD_START]);
+        put(words[at + KHALYKSOR_MLUC_RECORD_LENGTH]);
+        at += KHALYKSOR_MLUC_RECORD_WORDS;
+    }
+    return at;
+}
+
+static uint32_t put_records(uint32_t status)
+{
+    if (status != KHALYKSOR_VALUE)
+        return 0;
+    switch (out[0]) {
+    case KHALYKSOR_TYPE_MAB:
+    case KHALYKSOR_TYPE_MBA:
+        return put_curve_records();
+    case KHALYKSOR_TYPE_MLUC:
+        return put_string_records();
+    default:
+        return 0;
+    }
+}
+
 /* Prints the words, and answers how many they are. */
 static int put_value(const Job *job)
 {
@@ -345,7 +396,7 @@ static void answer(const Job *job)
     }
     if (job->reader == 1 || job->reader == 3 || job->reader == 11) {
         printf(" |");
-        for (i = 0; i < job->lent; i++)
+        for (i = put_records(status); i < job->lent; i++)
             put(words[i]);
     }
     printf("\n");

@@ -120,6 +120,10 @@ static void finish_tag(uint32_t bytes) {
     case 6:
         if (one_in(8)) offset = edge_of_32();
         break;
+    case 7: /* a short size, and a profile that may end before it */
+        size = sizes[below(sizeof sizes / sizeof *sizes)];
+        length = (uint64_t)offset + below(size + 2);
+        break;
     default: break;
     }
     if (one_in(8)) {
@@ -277,6 +281,7 @@ static uint32_t mft_tag(void) {
         put16(48, entries_in);
         put16(50, entries_out);
     }
+    if (one_in(32)) return two ? between(48, 52) : 48; /* the head alone */
     for (i = 0; i < inputs && points < 4096; i++) points *= grid;
     bytes = (two ? 52u : 48u) + bytes_each * (inputs * entries_in + points * outputs + outputs * entries_out);
     return bytes < PROFILE_BYTES - 128 ? bytes : 3000;
@@ -329,6 +334,10 @@ static uint32_t abm_tag(void) {
         uint32_t table = at;
         at = colour_table_at(at, inputs, outputs);
         if (one_in(16)) return table + between(18, 22); /* cut behind the table's head */
+        if (one_in(32)) { /* just the table's head, with a fault in it */
+            put8(table, 1);
+            return table + 20;
+        }
     }
     if (one_in(2)) at = run_at(at, 28, ab ? inputs : outputs);
     if (one_in(2)) at = run_at(at, 20, ab ? outputs : inputs);
