@@ -35,9 +35,9 @@ extern "C" {
 #endif
 
 /* The version of this file. khalyksor_version() tells that of the library. */
-#define KHALYKSOR_VERSION_MAJOR 1
+#define KHALYKSOR_VERSION_MAJOR 2
 #define KHALYKSOR_VERSION_MINOR 0
-#define KHALYKSOR_VERSION_TEXT "1.0"
+#define KHALYKSOR_VERSION_TEXT "2.0"
 #define KHALYKSOR_VERSION (KHALYKSOR_VERSION_MAJOR * 0x10000u + KHALYKSOR_VERSION_MINOR)
 
 /* What a function returns that is no refusal. */
@@ -66,8 +66,7 @@ enum {
     KHALYKSOR_REFUSED_TOO_FEW_SLOTS = 14, /* more records than slots */
     KHALYKSOR_REFUSED_BAD_TABLE = 15, /* mft1, mft2: entries, channels or grid points that are not allowed */
     KHALYKSOR_REFUSED_GRID_OVER_LIMIT = 16, /* mft1, mft2: more grid points than points */
-    KHALYKSOR_REFUSED_BAD_CHAD = 17, /* chad: another type, or a size of 45 to 47 */
-    KHALYKSOR_REFUSED_LAST_POINT = 18 /* the last grid point's entries lie past the colour table */
+    KHALYKSOR_REFUSED_BAD_CHAD = 17 /* chad: another type, or a size of 45 to 47 */
 };
 
 /* How a run of curves steps over an empty one. */

@@ -27,7 +27,7 @@
 #![allow(dead_code)]
 
 // The version of this file. khalyksor_version() tells that of the library.
-pub const KHALYKSOR_VERSION: u32 = 1 * 0x1_0000 + 0;
+pub const KHALYKSOR_VERSION: u32 = 2 * 0x1_0000 + 0;
 
 // What a function returns that is no refusal.
 pub const KHALYKSOR_VALUE: u32 = 0; // a value: its words stand in front of out, and of what needs records, these in slots
@@ -53,7 +53,6 @@ pub const KHALYKSOR_REFUSED_TOO_FEW_SLOTS: u32 = 14; // more records than slots
 pub const KHALYKSOR_REFUSED_BAD_TABLE: u32 = 15; // mft1, mft2: entries, channels or grid points that are not allowed
 pub const KHALYKSOR_REFUSED_GRID_OVER_LIMIT: u32 = 16; // mft1, mft2: more grid points than points
 pub const KHALYKSOR_REFUSED_BAD_CHAD: u32 = 17; // chad: another type, or a size of 45 to 47
-pub const KHALYKSOR_REFUSED_LAST_POINT: u32 = 18; // the last grid point's entries lie past the colour table
 
 // How a run of curves steps over an empty one.
 pub const KHALYKSOR_WALK_CRATE: u32 = 0; // an empty curve moves the walk by nothing, as in moxcms: the next channel reads it again

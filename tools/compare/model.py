@@ -4,7 +4,6 @@ Each function has the checks of that page in the page's order. It settles what m
 refusal 14, the numbers of refusals that share an error, where a record starts, and every word lent.
 """
 
-import math
 import struct
 from dataclasses import dataclass, field
 
@@ -181,8 +180,6 @@ def _colour_table(tag: bytes, at: int, inputs: int, outputs: int) -> tuple[bytes
     refuse(5, when=product == 0)
     refuse(6, when=product > MOST_ENTRIES)
     refuse(7, when=any(dimension < 2 for dimension in used))
-    last_point = math.prod(used) - 1
-    refuse(18, when=last_point * outputs >= product)
     refuse(8, when=entry_size not in (1, 2))
     length = product * entry_size
     refuse(2, when=start + length > len(tag))

@@ -4,7 +4,8 @@ use mathlib.Core.Path.{refl}
 use Rattle.icc.specs.Each.{Each}
 use Rattle.fields.specs.Bytes.{bytesAt, wordsAt}
 use Rattle.fields.specs.Tag.{signatureOf}
-use Rattle.lut_clut_meaning.specs.Clut.{some, partials, shapeOf, clutOf}
+use Rattle.fields.specs.Some.{some}
+use Rattle.lut_clut_meaning.specs.Clut.{partials, gridChecked, dataOf, clutOf}
 use Rattle.lut_clut_meaning.specs.Table.{product, inGrid, pointOf}
 use Rattle.curve_meaning.specs.Answer.{answerOf as curveAnswer}
 use Rattle.curve_meaning.specs.Curve.{trcOf, curveOf, curvOf, paraOf, divides}
@@ -34,5 +35,5 @@ use Rattle.answers_meaning.specs.Line.{markedFrom, entryExportedAt, view
 use Rattle.answers_meaning.specs.Text.{refusedText, nameText, wordsText, exportedText, lentText}
 
 pub claim : Each Holds cases
-unfolding Each Holds printed curveAnswer trcOf curveOf curvOf paraOf divides parameterCount sizeOf stepOf wordsOf aligned curveAt runAt recordsOf abmOf valueOf tableIn colourTableOf curvesOf matrixChecked ended present deviceChannels spaceChannels aCurves mCurves bCurves recordsNeeded gridOf abmMatrix biasOf stringOf stringByType textOf unicodeOf descOf slottedOf mlucOf recordsIn recordsAsked recordsFrom recordAt even wordsIn keptOf byteOf unitOf windowOf tripleOf signatureIn dateBytes measurement conditions firstXyz codePoints lentText lineOf exportedOf wordsAfter layoutOf entryExportedAt viewExported nameText wordsText exportedText lutLayout numbersIn stringLayout rowFrom wordText bytesAt markedFrom tailOf refusedText numbers numeral number decimal digitsOf foundOf answerTo chadOf chadMatrixOf nineNumbers lutOf byType isMft isWide mftOf numbersOf badNumbers badEntries badChannels outside tablesOf fieldsOf mftAnswer entrySize tablesStart entriesAt colourTable some partials shapeOf clutOf product entryOf entryFrom gridFrom inGrid pointOf wordsAt signatureOf
+unfolding Each Holds printed curveAnswer trcOf curveOf curvOf paraOf divides parameterCount sizeOf stepOf wordsOf aligned curveAt runAt recordsOf abmOf valueOf tableIn colourTableOf curvesOf matrixChecked ended present deviceChannels spaceChannels aCurves mCurves bCurves recordsNeeded gridOf abmMatrix biasOf stringOf stringByType textOf unicodeOf descOf slottedOf mlucOf recordsIn recordsAsked recordsFrom recordAt even wordsIn keptOf byteOf unitOf windowOf tripleOf signatureIn dateBytes measurement conditions firstXyz codePoints lentText lineOf exportedOf wordsAfter layoutOf entryExportedAt viewExported nameText wordsText exportedText lutLayout numbersIn stringLayout rowFrom wordText bytesAt markedFrom tailOf refusedText numbers numeral number decimal digitsOf foundOf answerTo chadOf chadMatrixOf nineNumbers lutOf byType isMft isWide mftOf numbersOf badNumbers badEntries badChannels outside tablesOf fieldsOf mftAnswer entrySize tablesStart entriesAt colourTable some partials gridChecked dataOf clutOf product entryOf entryFrom gridFrom inGrid pointOf wordsAt signatureOf
 claim = (refl, (refl, (refl, (refl, (refl, (refl, (refl, (refl, (refl, (refl, (refl, (refl, (refl, (refl, (refl, (refl, (refl, (refl, (refl, (refl, (refl, (refl, (refl, (refl, (refl, (refl, (refl, (refl, (refl, (refl, (refl, (refl, tt))))))))))))))))))))))))))))))))

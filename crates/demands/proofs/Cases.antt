@@ -4,8 +4,9 @@ use mathlib.Core.Path.{refl}
 use Rattle.icc.specs.Each.{Each}
 use Rattle.fields.specs.Bytes.{bytesAt, wordsAt}
 use Rattle.fields.specs.Tag.{signatureOf}
+use Rattle.fields.specs.Some.{some}
 use Rattle.lut_clut_meaning.specs.Cases.{numbersIn}
-use Rattle.lut_clut_meaning.specs.Clut.{clutOf, shapeOf, some, partials}
+use Rattle.lut_clut_meaning.specs.Clut.{clutOf, gridChecked, dataOf, partials}
 use Rattle.lut_clut_meaning.specs.Table.{product, pointOf}
 use Rattle.curve_meaning.specs.Answer.{answerOf}
 use Rattle.curve_meaning.specs.Cases.{signedParameters}
@@ -32,6 +33,6 @@ unfolding Holds lutOf byType isMft isWide abmOf valueOf tableIn colourTableOf pr
 book-walk = record { answer = refl; two-slots = (refl, refl) }
 
 pub claim : Each Holds cases
-unfolding Each Holds signedParameters numbersIn trcOf answerOf lutOf byType isMft isWide abmOf valueOf tableIn colourTableOf clutOf shapeOf some partials product pointOf curvesOf matrixChecked ended present deviceChannels spaceChannels aCurves mCurves bCurves recordsNeeded gridOf matrixOf biasOf bytesAt wordsAt runAt curveAtOffset aligned recordsOf curveOf curvOf paraOf divides parameterCount sizeOf stepOf wordsOf stringOf stringByType slottedOf mlucOf recordsIn recordsAsked recordsFrom recordAt even wordsIn signatureOf
+unfolding Each Holds signedParameters numbersIn trcOf answerOf lutOf byType isMft isWide abmOf valueOf tableIn colourTableOf clutOf gridChecked dataOf some partials product pointOf curvesOf matrixChecked ended present deviceChannels spaceChannels aCurves mCurves bCurves recordsNeeded gridOf matrixOf biasOf bytesAt wordsAt runAt curveAtOffset aligned recordsOf curveOf curvOf paraOf divides parameterCount sizeOf stepOf wordsOf stringOf stringByType slottedOf mlucOf recordsIn recordsAsked recordsFrom recordAt even wordsIn signatureOf
 claim =
     (refl, (refl, ((refl, refl), ((refl, refl), ((refl, refl), (refl, (refl, ((refl, refl), ((refl, refl), (refl, (refl, (book-walk .answer, (refl, ((refl, refl), (book-walk .two-slots, (refl, ((refl, refl), ((refl, refl), (refl, (refl, tt))))))))))))))))))))

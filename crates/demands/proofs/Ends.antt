@@ -2,9 +2,10 @@
 -- Assumes nothing.
 use Prim.Native.Nat.{ℕ}
 use mathlib.Core.Path.{_≡_, refl, ap, subst, _∙_}
+use mathlib.Core.Bool.{true}
 use mathlib.Core.List.{List}
-use Rattle.fields.specs.Refusals.{refusalNumber, IsRefusal}
-use Rattle.fields.specs.declared.Refusal.{Refusal}
+use Rattle.fields.specs.Refusals.{isRefusal}
+use Rattle.fields.proofs.Numbers.{listed}
 use Rattle.curve_meaning.specs.declared.CurveAnswer.{CurveAnswer}
 use Rattle.lut_meaning.specs.Answer.{State, mft, abm, absent as State·absent, refused as State·refused, stateFrom, slotsWith as Lut·slotsWith}
 use Rattle.lut_meaning.specs.declared.LutAnswer.{LutAnswer}
@@ -17,15 +18,12 @@ use Rattle.demands.specs.Readers.{Reader, lut, trc, string, small, Call,
 
 -- ---- numbers of refusals
 
-numbered-so : (why : Refusal) → IsRefusal (refusalNumber why)
-numbered-so why = record { why = why; has = refl }
-
 -- an outcome that is no refusal, or has the number of one
 abbrev Numbered : Outcome → Type 0
 Numbered value = Unit
 Numbered default = Unit
 Numbered absent = Unit
-Numbered (refused n) = IsRefusal n
+Numbered (refused n) = isRefusal n ≡ true
 
 result-numbered : (r : Reader) (x : Result r) → Numbered (outcome r (numbers r x))
 result-numbered (lut walk) x = by (x .answer)
@@ -34,24 +32,24 @@ result-numbered (lut walk) x = by (x .answer)
     by (LutAnswer.Mft t) = tt
     by (LutAnswer.Abm t) = tt
     by LutAnswer.Absent = tt
-    by (LutAnswer.Refused why) = numbered-so why
+    by (LutAnswer.Refused why) = listed why
 result-numbered (trc walk) (CurveAnswer.Value curve consumed) = tt
 result-numbered (trc walk) CurveAnswer.Absent = tt
-result-numbered (trc walk) (CurveAnswer.Refused why) = numbered-so why
+result-numbered (trc walk) (CurveAnswer.Refused why) = listed why
 result-numbered string (TextAnswer.Text s) = tt
 result-numbered string (TextAnswer.Desc d) = tt
 result-numbered string (TextAnswer.Mluc n) = tt
 result-numbered string TextAnswer.Absent = tt
-result-numbered string (TextAnswer.Refused why) = numbered-so why
+result-numbered string (TextAnswer.Refused why) = listed why
 result-numbered (small s) x = by (smallNumbers s x) (small-numbered s x)
   where
-    by : (a : Small·Answer) → ((n : ℕ) → a ≡ Small·Answer.refused n → IsRefusal n) → Numbered (smallOutcome a)
+    by : (a : Small·Answer) → ((n : ℕ) → a ≡ Small·Answer.refused n → isRefusal n ≡ true) → Numbered (smallOutcome a)
     by (Small·Answer.value ns) h = tt
     by Small·Answer.default h = tt
     by Small·Answer.absent h = tt
     by (Small·Answer.refused n) h = h n refl
 
-pub numbered : (l : Library) (r : Reader) (c : Call) (n : ℕ) → ends l r c ≡ refused n → IsRefusal n
+pub numbered : (l : Library) (r : Reader) (c : Call) (n : ℕ) → ends l r c ≡ refused n → isRefusal n ≡ true
 numbered l r c n e = subst Numbered e (result-numbered r (l .returns r c))
 
 -- ---- slots

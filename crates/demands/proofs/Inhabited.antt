@@ -91,7 +91,7 @@ abm-stands : (walk : Walk) (limit : ℕ) (t : List ℕ) (words : ℕ) → Stands
 unfolding Stands valueOf
 abm-stands walk limit t words =
     ways-out walk limit t words StandsOf refl
-    (λ n r. ap State.refused (part-refuses Known refl refl refl refl refl refl refl limit t (curve-numbers limit) walk n r)) (λ _ _. refl) (λ _ _. refl)
+    (λ n r. ap State.refused (part-refuses Known refl refl refl refl refl refl limit t (curve-numbers limit) walk n r)) (λ _ _. refl) (λ _ _. refl)
 
 mft-stands : (points : ℕ) (t : List ℕ) → Stands (mftState (Mft·answerOf t (mftOf points t) .state))
 unfolding Stands Mft·answerOf

@@ -25,7 +25,7 @@ pub data Case : Type 0 where
   refuses : Reader → Call → ℕ → Case
   -- the parameters of a lone curve, as signed numbers
   means : Call → List ℤ → Case
-  -- a colour table with so many input and output channels: its entries, what check 18 compares them with, and the last entry's number
+  -- a colour table with so many input and output channels: its entries and the last entry's number
   counts : List ℕ → ℕ → ℕ → List ℕ → Case
 
 unfoldable pub Holds : Case → Type 0
@@ -125,7 +125,7 @@ bookTwoSlots = refuses (lut Book) (withSlotsFor 2) 14
 -- ---- colour tables: a grid of 2, 2, 2 with three outputs; four times 255 with two; 1, 2, 2
 
 abbrev pub smallCube : Case
-smallCube = counts (clut cube 1) 3 3 (24 ∷ 21 ∷ 23 ∷ [])
+smallCube = counts (clut cube 1) 3 3 (24 ∷ 23 ∷ [])
 
 abbrev pub hugeGrid : Case
 hugeGrid = refuses (lut Crate) (call (withTable 4 2 (255 ∷ 255 ∷ 255 ∷ 255 ∷ [])) 76 []) 4

@@ -17,7 +17,7 @@ use Rattle.icc.specs.Text.{Ascii, terminated, textType, Description, IsDescript
 use Rattle.fields.specs.Bytes.{u16At, u32At, wordsAt}
 use Rattle.fields.specs.House.{tagSize}
 use Rattle.fields.specs.Place.{tagAt, countedTag}
-use Rattle.fields.specs.Refusals.{IsRefusal, pastProfile, tooManyEntries, curveRunsOut, tooFewSlots, tooManyPoints}
+use Rattle.fields.specs.Refusals.{isRefusal, pastProfile, tooManyEntries, curveRunsOut, tooFewSlots, tooManyPoints}
 use Rattle.fields.specs.Tag.{signatureOf}
 use Rattle.fields.specs.declared.Kind.the-variants.{Mab, Mba, Mft1, Mft2}
 use Rattle.lut_clut_meaning.specs.Table.{Table, inGrid, entryNumber}
@@ -207,8 +207,8 @@ onProfile p c =
 -- Every call is answered, and inside. That each call ends with one of the outcomes of `Outcome`, traps nowhere, and stays inside its
 -- slices, is each function's own proof, in proofs/F/Proof.antt of its crate
 pub record Demand1 (l : Library) : Type 0 where
-  -- a refusal has the number of one
-  pub numbered : (r : Reader) (c : Call) (n : ℕ) → ends l r c ≡ refused n → IsRefusal n
+  -- a refusal has one of the numbers of `refusalNumbers`, 1 to 17
+  pub numbered : (r : Reader) (c : Call) (n : ℕ) → ends l r c ≡ refused n → isRefusal n ≡ true
   -- a refusal leaves lent slots untouched
   pub refusal-leaves-slots : (r : Reader) (c : Call) (n : ℕ) → ends l r c ≡ refused n → l .leaves r c ≡ c .slots
   -- and so does an absence

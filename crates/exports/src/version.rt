@@ -2,7 +2,7 @@
 ghost use mathlib.Core.Path.{_≡_};
 ghost use Rattle.exports.specs.Version.{version};
 
-const MAJOR: u32 = 1;
+const MAJOR: u32 = 2;
 
 const MINOR: u32 = 0;
 

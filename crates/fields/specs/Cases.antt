@@ -14,7 +14,7 @@ use Rattle.fields.specs.declared.Limits.{Limits}
 use Rattle.fields.specs.declared.Place.{Place}
 use Rattle.fields.specs.declared.Place.the-variants.{In, Past}
 use Rattle.fields.specs.declared.Refusal.{Refusal}
-use Rattle.fields.specs.declared.Refusal.the-variants.{PastProfile, TagTooShort, OtherLut, GridOverflow, GridZero, GridTooLarge, GridDimension, EntrySize, OtherCurve, TooManyEntries, CurveRunsOut, FunctionType, ZeroDivision, TooFewSlots, BadTable, GridOverLimit, BadChad, LastPoint}
+use Rattle.fields.specs.declared.Refusal.the-variants.{PastProfile, TagTooShort, OtherLut, GridOverflow, GridZero, GridTooLarge, GridDimension, EntrySize, OtherCurve, TooManyEntries, CurveRunsOut, FunctionType, ZeroDivision, TooFewSlots, BadTable, GridOverLimit, BadChad}
 
 -- five bytes
 abbrev pub five : List ℕ
@@ -55,7 +55,7 @@ Holds (defaults l) = houseLimits ≡ l
 
 abbrev pub refusals : List Refusal
 refusals =
-    PastProfile ∷ TagTooShort ∷ OtherLut ∷ GridOverflow ∷ GridZero ∷ GridTooLarge ∷ GridDimension ∷ EntrySize ∷ OtherCurve ∷ TooManyEntries ∷ CurveRunsOut ∷ FunctionType ∷ ZeroDivision ∷ TooFewSlots ∷ BadTable ∷ GridOverLimit ∷ BadChad ∷ LastPoint ∷ []
+    PastProfile ∷ TagTooShort ∷ OtherLut ∷ GridOverflow ∷ GridZero ∷ GridTooLarge ∷ GridDimension ∷ EntrySize ∷ OtherCurve ∷ TooManyEntries ∷ CurveRunsOut ∷ FunctionType ∷ ZeroDivision ∷ TooFewSlots ∷ BadTable ∷ GridOverLimit ∷ BadChad ∷ []
 
 abbrev pub cases : List Case
 cases =
@@ -98,6 +98,6 @@ cases =
     -- a size of 0 counts as 12
     counts 0 12 ∷
     counts 1 1 ∷
-    numbers refusals (1 ∷ 2 ∷ 3 ∷ 4 ∷ 5 ∷ 6 ∷ 7 ∷ 8 ∷ 9 ∷ 10 ∷ 11 ∷ 12 ∷ 13 ∷ 14 ∷ 15 ∷ 16 ∷ 17 ∷ 18 ∷ []) ∷
+    numbers refusals (1 ∷ 2 ∷ 3 ∷ 4 ∷ 5 ∷ 6 ∷ 7 ∷ 8 ∷ 9 ∷ 10 ∷ 11 ∷ 12 ∷ 13 ∷ 14 ∷ 15 ∷ 16 ∷ 17 ∷ []) ∷
     defaults record { entries = 4096; points = 1000000 } ∷
     []

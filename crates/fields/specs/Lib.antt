@@ -1,6 +1,7 @@
 pub mod Bytes
 pub mod Tag
 pub mod Place
+pub mod Some
 pub mod Refusals
 pub mod Checked
 pub mod House

@@ -1,8 +1,11 @@
 -- The number by which users know each refusal.
 use Prim.Native.Nat.{ℕ}
-use mathlib.Core.Path.{_≡_}
+use mathlib.Core.Bool.{Bool}
+use mathlib.Core.List.{List, [], _∷_}
+use lib.Dec.{eqb}
+use Rattle.fields.specs.Some.{some}
 use Rattle.fields.specs.declared.Refusal.{Refusal}
-use Rattle.fields.specs.declared.Refusal.the-variants.{PastProfile, TagTooShort, OtherLut, GridOverflow, GridZero, GridTooLarge, GridDimension, EntrySize, OtherCurve, TooManyEntries, CurveRunsOut, FunctionType, ZeroDivision, TooFewSlots, BadTable, GridOverLimit, BadChad, LastPoint}
+use Rattle.fields.specs.declared.Refusal.the-variants.{PastProfile, TagTooShort, OtherLut, GridOverflow, GridZero, GridTooLarge, GridDimension, EntrySize, OtherCurve, TooManyEntries, CurveRunsOut, FunctionType, ZeroDivision, TooFewSlots, BadTable, GridOverLimit, BadChad}
 
 abbrev pub refusalNumber : Refusal → ℕ
 refusalNumber PastProfile = 1
@@ -22,12 +25,14 @@ refusalNumber TooFewSlots = 14
 refusalNumber BadTable = 15
 refusalNumber GridOverLimit = 16
 refusalNumber BadChad = 17
-refusalNumber LastPoint = 18
 
--- n is the number of a refusal
-pub record IsRefusal (n : ℕ) : Type 0 where
-  pub why : Refusal
-  pub has : refusalNumber why ≡ n
+-- all of them. 18 was one, and is not used again
+abbrev pub refusalNumbers : List ℕ
+refusalNumbers = 1 ∷ 2 ∷ 3 ∷ 4 ∷ 5 ∷ 6 ∷ 7 ∷ 8 ∷ 9 ∷ 10 ∷ 11 ∷ 12 ∷ 13 ∷ 14 ∷ 15 ∷ 16 ∷ 17 ∷ []
+
+-- n is one of them
+abbrev pub isRefusal : ℕ → Bool
+isRefusal n = some (eqb n) refusalNumbers
 
 -- the numbers that the demands speak of
 abbrev pub pastProfile : ℕ

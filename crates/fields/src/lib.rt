@@ -49,7 +49,6 @@ pub enum Refusal {
     BadTable,
     GridOverLimit,
     BadChad,
-    LastPoint,
 }
 
 impl Refusal {
@@ -75,7 +74,6 @@ impl Refusal {
             Refusal::BadTable => 15,
             Refusal::GridOverLimit => 16,
             Refusal::BadChad => 17,
-            Refusal::LastPoint => 18,
         }
     }
 }

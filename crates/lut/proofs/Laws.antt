@@ -9,7 +9,7 @@ use lib.Dec.{ltb, eqb}
 use lib.ListN.{length, getD, take, drop, replicate}
 use borrow.Author.Tests.{eq-eqb, ne-eqb, lt-ltb, le-ltb}
 use Rattle.fields.proofs.Never.{never}
-use Rattle.fields.specs.Checked.{Checked, good, bad}
+use Rattle.fields.specs.Checked.{Checked, good, bad, andThen}
 use Rattle.fields.specs.Bytes.{u32At}
 use Rattle.fields.specs.Place.{placeOf, countedSize, countedTag}
 use Rattle.fields.specs.Refusals.{refusalNumber}
@@ -39,7 +39,7 @@ use Rattle.lut_meaning.specs.Layout.{toPcs, inputs, outputs, clutOffset, record
 use Rattle.lut_meaning.specs.Lut.{AnswerAndSlots, isAbm, byType, lutOf}
 use Rattle.lut_meaning.specs.Parts.{matrixChecked, tableIn, colourTableOf, runA, runM, runB, ended, RunsWhole, curvesOf}
 use Rattle.lut.specs.Passed.{Opened, TableGood}
-use Rattle.lut.specs.Runs.{RunsOf, andThen, runsChecked}
+use Rattle.lut.specs.Runs.{RunsOf, runsChecked}
 use Rattle.lut.specs.Verdict.{verdictInNumbers}
 use Rattle.lut_meaning.specs.declared.Lut.{Lut}
 use Rattle.lut.specs.declared.abm.Runs.{Runs}

@@ -14,7 +14,7 @@ use denote.Enum.Declared.{tagOf as placeIn}
 use borrow.Author.Tests.{eq-eqb, ne-eqb, lt-ltb, le-ltb, eqb-true}
 use borrow.Rule.Slice.PartMut.{putMid}
 use Rattle.fields.proofs.Never.{never}
-use Rattle.fields.specs.Checked.{Checked, good, bad}
+use Rattle.fields.specs.Checked.{Checked, good, bad, andThen}
 use Rattle.fields.specs.Bytes.{u32At, bytesAt, wordsAt}
 use Rattle.fields.proofs.Choice.{first-holds, second-holds}
 use Rattle.fields.proofs.Stores.{sets-append, front, rejoined}
@@ -25,7 +25,7 @@ use Rattle.lut_run_meaning.specs.Run.{whole, Run, runAt, recordsOf}
 use Rattle.lut_meaning.specs.Layout.{toPcs, inputs, outputs, matrixOffset, matrixBytes, biasFrom, clutOffset, aOffset, mOffset, bOffset, deviceChannels, spaceChannels, present, aCurves, mCurves, bCurves, identity, matrixOf, biasOf, gridOf}
 use Rattle.lut_meaning.specs.Parts.{matrixChecked, tableIn, colourTableOf, runA, runM, runB, ended, RunsWhole, curvesOf}
 use Rattle.lut_meaning.proofs.Inside.{grid-inside}
-use Rattle.lut.specs.Runs.{Few, RunsOf, andThen, runsChecked}
+use Rattle.lut.specs.Runs.{Few, RunsOf, runsChecked}
 use Rattle.lut.specs.Verdict.{verdictInNumbers}
 use Rattle.lut_meaning.proofs.Shared.{records-of, all-records}
 use Rattle.lut.specs.declared.abm.Runs.{Runs}

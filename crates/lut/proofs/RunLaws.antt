@@ -11,7 +11,7 @@ use types.Run.{OneOf}
 use denote.Enum.Declared.{tagOf as placeIn}
 use borrow.Author.Tests.{lt-ltb, le-ltb}
 use borrow.Rule.Slice.PartMut.{putMid}
-use Rattle.fields.proofs.Never.{never}
+use Rattle.fields.proofs.Choice.{refused-good}
 use Rattle.fields.specs.Checked.{Checked, good, bad}
 use Rattle.fields.specs.Refusals.{refusalNumber}
 use Rattle.fields.specs.declared.Refusal.{Refusal}
@@ -137,7 +137,7 @@ module _ (walk : Walk) (limit : ℕ) (t : List ℕ) (o n : ℕ) (s₀ s : List �
         where
           by : (q : Step) → got ≡ q → OneOf (1 ∷ []) (placeIn steps.the-type q) → ⊥
           by (Step.On m) e k = omega arith
-          by (Step.Refused why) e k = let k = sym (ap stepInNumbers e) ∙ going in never cc
+          by (Step.Refused why) e k = refused-good (sym (ap stepInNumbers e) ∙ going)
 
       module _ (consumed : ℕ) (e : got ≡ Step.On consumed) where
         step-is : consumed ≡ stepOf walk (next-is walk limit t o n s₀ s at i w l .shape)

@@ -2,7 +2,7 @@
 use Prim.Native.Nat.{ℕ, _<_}
 use mathlib.Core.Path.{_≡_}
 use mathlib.Core.List.{List}
-use Rattle.fields.specs.Checked.{Checked, good, bad}
+use Rattle.fields.specs.Checked.{Checked, andThen}
 use Rattle.curve_meaning.specs.declared.Walk.{Walk}
 use Rattle.lut_meaning.specs.Layout.{aOffset, aCurves, mOffset, mCurves, bOffset, bCurves}
 use Rattle.lut_meaning.specs.Parts.{runA, runM, runB, ended}
@@ -22,11 +22,7 @@ pub record RunsOf (t : List ℕ) (p : Runs) : Type 0 where
   pub m-curves : Few (mCurves t) (p .nm)
   pub b-curves : Few (bCurves t) (p .nb)
 
--- one after the other: the first refusal counts
-abbrev pub andThen : Checked Unit → Checked Unit → Checked Unit
-andThen (good _) next = next
-andThen (bad n) next = bad n
-
+-- one after the other
 unfoldable pub runsChecked : Walk → ℕ → List ℕ → Checked Unit
 runsChecked walk limit t =
     andThen (ended (runA walk limit t .end)) (andThen (ended (runM walk limit t .end)) (ended (runB walk limit t .end)))

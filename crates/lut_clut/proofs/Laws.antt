@@ -13,13 +13,13 @@ use lib.Seq.{drop-cons}
 use mir.Syntax.{w32, w64}
 use mir.Val.{Fits}
 use borrow.Author.Tests.{ne-eqb, lt-ltb, le-ltb, le-leb, lt-leb}
+use Rattle.fields.specs.Some.{some}
 use Rattle.fields.proofs.Choice.{each}
 use Rattle.fields.proofs.Located.{part-is}
-use Rattle.lut_clut_meaning.specs.Clut.{some, isOver, isFlat, partials, overflows, mostEntries, gridAt, tableAt, shapeOf, clutOf}
-use Rattle.lut_clut_meaning.specs.Table.{product, lastOf}
+use Rattle.lut_clut_meaning.specs.Clut.{isOver, isFlat, partials, overflows, mostEntries, gridAt, gridChecked, dataOf, clutOf}
+use Rattle.lut_clut_meaning.specs.Table.{product}
 use Rattle.lut_clut_meaning.specs.Answer.{Answer, value, refused, answerOf}
-use Rattle.lut_clut_meaning.proofs.Grid.{factors, last-is}
-use Rattle.lut_clut.specs.Counts.{countsOf, Counted}
+use Rattle.lut_clut.specs.Counts.{countsOf, Few, DataRead}
 use Rattle.lut_clut.specs.declared.Counts.{Counts}
 
 -- ---- a product in 64 bits
@@ -84,52 +84,34 @@ module _ (l : List ℕ) (i : ℕ) (inv : some isFlat (drop i l) ≡ some isFlat 
   unfolding some
   flat-ends h = rw (drop-of-length-le l h) at inv
 
--- ---- the table of a grid whose entries are counted
+-- ---- the data of a table
 
-module _ (t grid : List ℕ) (at outputs points entries : ℕ) (known : Counted t at grid outputs points entries) where
-  product-one : 1 ≤ product grid
-  product-one = factors (product grid) outputs (rw (known .entries-are) at (known .one)) .0
+module _ (t : List ℕ) (at points entries : ℕ) (known : Few t at entries) (s : ℕ) (q : s ≡ getD t (at + 16) 0) where
+  pub length-fits : (n : ℕ) → n ≡ entries * s → s ≤ 2 → Fits w32 n
+  length-fits n e l = let f = known .few in record { fits = omega (arith, e, mul-le-mul f l) }
 
-  pub points-one : 1 ≤ points
-  points-one = rw (known .points-are) product-one
+  pub data-none : s < 1 → DataRead t at points entries (refused 8)
+  unfolding DataRead dataOf answerOf
+  data-none l = λ grid outputs p e. simp (← q, lt-ltb _ _ l)
 
-  pub length-fits : (s n : ℕ) → n ≡ entries * s → s ≤ 2 → Fits w32 n
-  length-fits s n e l = let f = known .few in record { fits = omega (arith, e, mul-le-mul f l) }
+  pub data-three : 1 ≤ s → 2 < s → DataRead t at points entries (refused 8)
+  unfolding DataRead dataOf answerOf
+  data-three m l = λ grid outputs p e. simp (← q, le-ltb _ _ m, lt-ltb _ _ l)
 
-  module _ (flat : Bool) (f : flat ≡ some isFlat grid) where
-    pub shape-flat : flat ≡ true → refused 7 ≡ answerOf (shapeOf t (tableAt t at grid outputs))
-    unfolding shapeOf answerOf
-    shape-flat y = simp (← f, y)
+  module _ (m : 1 ≤ s) (l : s ≤ 2) (n : ℕ) (w : n ≡ entries * s) where
+    pub data-past : length t - (at + 20) < n → DataRead t at points entries (refused 2)
+    unfolding DataRead dataOf answerOf
+    data-past o =
+        λ grid outputs p e.
+        let long : length t < at + 20 + n = omega (arith, known .header) in
+        simp (← e, ← q, le-ltb _ _ m, le-ltb _ _ l, ← w, lt-ltb _ _ long)
 
-    module _ (sharp : flat ≡ false) (last : ℕ) (e : last ≡ (points - 1) * outputs) where
-      last-number : lastOf grid * outputs ≡ last
-      last-number = let w : lastOf grid ≡ points - 1 = omega (arith, last-is grid product-one, known .points-are) in rw w (sym e)
-
-      pub shape-last : entries ≤ last → refused 18 ≡ answerOf (shapeOf t (tableAt t at grid outputs))
-      unfolding shapeOf answerOf
-      shape-last l = simp (← f, sharp, ← known .entries-are, last-number, le-leb _ _ l)
-
-      module _ (more : last < entries) (s : ℕ) (q : s ≡ getD t (at + 16) 0) where
-        pub shape-none : s < 1 → refused 8 ≡ answerOf (shapeOf t (tableAt t at grid outputs))
-        unfolding shapeOf answerOf
-        shape-none l = simp (← f, sharp, ← known .entries-are, last-number, lt-leb _ _ more, ← q, lt-ltb _ _ l)
-
-        pub shape-three : 1 ≤ s → 2 < s → refused 8 ≡ answerOf (shapeOf t (tableAt t at grid outputs))
-        unfolding shapeOf answerOf
-        shape-three m l = simp (← f, sharp, ← known .entries-are, last-number, lt-leb _ _ more, ← q, le-ltb _ _ m, lt-ltb _ _ l)
-
-        module _ (m : 1 ≤ s) (l : s ≤ 2) (n : ℕ) (w : n ≡ entries * s) where
-          pub shape-past : length t - (at + 20) < n → refused 2 ≡ answerOf (shapeOf t (tableAt t at grid outputs))
-          unfolding shapeOf answerOf
-          shape-past o =
-              let p : length t < at + 20 + n = omega (arith, known .header) in
-              simp (← f, sharp, ← known .entries-are, last-number, lt-leb _ _ more, ← q, le-ltb _ _ m, le-ltb _ _ l, ← w, lt-ltb _ _ p)
-
-          pub shape-value : n ≤ length t - (at + 20) → value points (at + 20) n s ≡ answerOf (shapeOf t (tableAt t at grid outputs))
-          unfolding shapeOf answerOf
-          shape-value o =
-              let p : at + 20 + n ≤ length t = omega (arith, known .header) in
-              simp (← f, sharp, ← known .entries-are, last-number, lt-leb _ _ more, ← q, le-ltb _ _ m, le-ltb _ _ l, ← w, le-ltb _ _ p, known .points-are)
+    pub data-value : n ≤ length t - (at + 20) → DataRead t at points entries (value points (at + 20) n s)
+    unfolding DataRead dataOf answerOf
+    data-value o =
+        λ grid outputs p e.
+        let inside : at + 20 + n ≤ length t = omega (arith, known .header) in
+        simp (← e, ← q, le-ltb _ _ m, le-ltb _ _ l, ← w, le-ltb _ _ inside, p)
 
 -- ---- the colour table
 
@@ -170,7 +152,7 @@ module _ (t : List ℕ) (at inputs outputs : ℕ) where
       counted = sym (rw grid-is at h)
 
       pub clut-over : counts ≡ Counts.Over → refused 4 ≡ answerOf (clutOf t at inputs outputs)
-      unfolding clutOf answerOf
+      unfolding clutOf gridChecked answerOf
       clut-over e = simp (le-ltb _ _ header, tells (gridAt t at inputs) outputs Counts.Over (counted ∙ e))
 
       module _ (points entries : ℕ) (e : counts ≡ Counts.Fit points entries) where
@@ -178,26 +160,35 @@ module _ (t : List ℕ) (at inputs outputs : ℕ) where
         told = tells (gridAt t at inputs) outputs (Counts.Fit points entries) (counted ∙ e)
 
         pub clut-zero : entries ≡ 0 → refused 5 ≡ answerOf (clutOf t at inputs outputs)
-        unfolding clutOf answerOf
+        unfolding clutOf gridChecked answerOf
         clut-zero z = simp (le-ltb _ _ header, told .fits, ← told .entries-are, z)
 
         module _ (z : entries ≡ 0 → ⊥) where
           pub clut-large : mostEntries < entries → refused 6 ≡ answerOf (clutOf t at inputs outputs)
-          unfolding clutOf answerOf
+          unfolding clutOf gridChecked answerOf
           clut-large l = simp (le-ltb _ _ header, told .fits, ← told .entries-are, ne-eqb _ _ z, lt-ltb _ _ l)
 
           module _ (l : entries ≤ mostEntries) where
-            pub clut-counted : Counted t at (take (at + n - at) (drop at t)) outputs points entries
-            clut-counted = rw grid-is (record { header = header; points-are = told .points-are; entries-are = told .entries-are; one = omega arith; few = l })
+            pub clut-few : Few t at entries
+            clut-few = record { header = header; few = l }
 
-            pub clut-rest : (r : Answer) → r ≡ answerOf (shapeOf t (tableAt t at (take (at + n - at) (drop at t)) outputs)) → r ≡ answerOf (clutOf t at inputs outputs)
-            unfolding clutOf
-            clut-rest r w = simp (le-ltb _ _ header, told .fits, ← told .entries-are, ne-eqb _ _ z, le-ltb _ _ l) (rw grid-is at w)
+            module _ (flat : Bool) (f : flat ≡ some isFlat (take (at + n - at) (drop at t))) where
+              flat-is : some isFlat (gridAt t at inputs) ≡ flat
+              flat-is = sym (rw grid-is at f)
+
+              pub clut-flat : flat ≡ true → refused 7 ≡ answerOf (clutOf t at inputs outputs)
+              unfolding clutOf gridChecked answerOf
+              clut-flat y = simp (le-ltb _ _ header, told .fits, ← told .entries-are, ne-eqb _ _ z, le-ltb _ _ l, flat-is, y)
+
+              pub clut-rest : flat ≡ false → (r : Answer) → DataRead t at points entries r → r ≡ answerOf (clutOf t at inputs outputs)
+              unfolding clutOf gridChecked DataRead
+              clut-rest y r w =
+                  simp (le-ltb _ _ header, told .fits, ← told .entries-are, ne-eqb _ _ z, le-ltb _ _ l, flat-is, y) (w (gridAt t at inputs) outputs (told .points-are) (told .entries-are))
 
 pub ruleset count-laws = (count-begins, count-turns, count-over, count-last, count-ends)
 
 pub ruleset flat-laws = (flat-found, flat-turns, flat-ends)
 
-pub ruleset shape-laws = (shape-flat, shape-last, shape-none, shape-three, shape-past, shape-value)
+pub ruleset data-laws = (data-none, data-three, data-past, data-value)
 
-pub ruleset clut-laws = (clut-short, clut-header, clut-over, clut-zero, clut-large, clut-rest)
+pub ruleset clut-laws = (clut-short, clut-header, clut-over, clut-zero, clut-large, clut-flat, clut-rest)

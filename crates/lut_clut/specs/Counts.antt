@@ -4,7 +4,8 @@ use mathlib.Core.Path.{_≡_}
 use mathlib.Core.Bool.{cond}
 use mathlib.Core.List.{List}
 use lib.ListN.{length}
-use Rattle.lut_clut_meaning.specs.Clut.{overflows, mostEntries}
+use Rattle.lut_clut_meaning.specs.Answer.{Answer, answerOf}
+use Rattle.lut_clut_meaning.specs.Clut.{overflows, mostEntries, tableAt, dataOf}
 use Rattle.lut_clut_meaning.specs.Table.{product}
 use Rattle.lut_clut.specs.declared.Counts.{Counts}
 
@@ -12,10 +13,12 @@ use Rattle.lut_clut.specs.declared.Counts.{Counts}
 unfoldable pub countsOf : List ℕ → ℕ → Counts
 countsOf grid outputs = cond (overflows grid outputs) Counts.Over (Counts.Fit (product grid) (product grid * outputs))
 
--- what is known of a table once its entries are counted
-pub record Counted (t : List ℕ) (at : ℕ) (grid : List ℕ) (outputs points entries : ℕ) : Type 0 where
+-- the bytes in front of the entries are there, and the entries are not too many
+pub record Few (t : List ℕ) (at entries : ℕ) : Type 0 where
   pub header : at + 20 ≤ length t
-  pub points-are : points ≡ product grid
-  pub entries-are : entries ≡ product grid * outputs
-  pub one : 1 ≤ entries
   pub few : entries ≤ mostEntries
+
+-- an answer is that of the data of any table there with so many points and entries
+unfoldable pub DataRead : List ℕ → ℕ → ℕ → ℕ → Answer → Type 0
+DataRead t at points entries a =
+    (grid : List ℕ) (outputs : ℕ) → points ≡ product grid → entries ≡ product grid * outputs → a ≡ answerOf (dataOf t (tableAt t at grid outputs))

@@ -11,8 +11,9 @@ pub use lut_clut_meaning::ColourTable;
 ghost use mathlib.Core.Path.{_≡_};
 ghost use Prim.Native.Nat.{_*_, min};
 ghost use Rattle.lut_clut_meaning.specs.Answer.{inNumbers, answerOf};
-ghost use Rattle.lut_clut_meaning.specs.Clut.{some, isFlat, tableAt, shapeOf, clutOf};
-ghost use Rattle.lut_clut.specs.Counts.{countsOf, Counted};
+ghost use Rattle.fields.specs.Some.{some};
+ghost use Rattle.lut_clut_meaning.specs.Clut.{isFlat, clutOf};
+ghost use Rattle.lut_clut.specs.Counts.{countsOf, Few, DataRead};
 
 const GRID_BYTES: u8 = 16;
 
@@ -85,25 +86,12 @@ fn has_flat(grid: &[u8]) -> bool
     false
 }
 
-// The table of a grid whose entries are counted: its dimensions, its last point, the bytes of an entry and the data.
-fn read_shape(
-    tag: &[u8],
-    at: InTag,
-    grid: &[u8],
-    outputs: u8,
-    points: u32,
-    entries: u32,
-) -> ClutAnswer
-    requires { ⌜ Counted (now tag) (at .0) (now grid) outputs points entries ⌝ }
-    ensures { λ r. ⌜ inNumbers r ≡ answerOf (shapeOf (now (tag .entry)) (tableAt (now (tag .entry)) (at .0) (now (grid .entry)) outputs)) ⌝ }
+// The table of a grid that passed its checks: the bytes of an entry and the data. That the last point lies in it needs no
+// check (`last-below` of `lut_clut_meaning`).
+fn read_data(tag: &[u8], at: InTag, points: u32, entries: u32) -> ClutAnswer
+    requires { ⌜ Few (now tag) (at .0) entries ⌝ }
+    ensures { λ r. ⌜ DataRead (now (tag .entry)) (at .0) points entries (inNumbers r) ⌝ }
 {
-    if has_flat(grid) {
-        return ClutAnswer::Refused(Refusal::GridDimension);
-    }
-    // The last grid point's number is one less than the points.
-    if (entries as u64) <= times(points - 1, outputs) {
-        return ClutAnswer::Refused(Refusal::LastPoint);
-    }
     let entry_size = fields::u8_at(tag, InTag(at.0 + ENTRY_SIZE));
     if entry_size < 1 {
         return ClutAnswer::Refused(Refusal::EntrySize);
@@ -149,5 +137,8 @@ pub fn read_clut(tag: &[u8], at: InTag, inputs: u8, outputs: u8) -> ClutAnswer
     if MOST_ENTRIES < entries {
         return ClutAnswer::Refused(Refusal::GridTooLarge);
     }
-    read_shape(tag, at, grid, outputs, points, entries)
+    if has_flat(grid) {
+        return ClutAnswer::Refused(Refusal::GridDimension);
+    }
+    read_data(tag, at, points, entries)
 }

@@ -56,9 +56,3 @@ unfolding pointOf product
 last-is [] h = refl
 last-is (zero ∷ gs) h = absurd (omega arith)
 last-is (suc k ∷ gs) h = let w : lastOf gs + 1 ≡ product gs = last-is gs (factors (suc k) (product gs) h .1) in omega arith
-
--- check 18 refuses no table that has an entry
-pub last-below : (table : Table) → 1 ≤ entriesOf table → lastOf (table .grid) * table .outputs < entriesOf table
-last-below table h =
-    let f = factors (pointsOf table) (table .outputs) h in
-    rw (← last-is (table .grid) (f .0)) (omega arith)

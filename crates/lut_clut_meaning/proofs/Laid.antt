@@ -1,5 +1,5 @@
 -- What a colour table is accepted by, in the reader's own terms, both ways: the stepping stone between the checks and what the standard writes.
--- Check 4 and check 18 ask nothing more: no partial product is above the entries, and the last point's number is one less than the points.
+-- Check 4 asks nothing more: no partial product is above the entries.
 -- Assumes nothing.
 use Prim.Native.Nat.{ℕ, zero, suc, _+_, _*_, _^_, _≤_, _<_}
 use native.Mathlib.Omega.{arith}
@@ -7,14 +7,16 @@ use native.Mathlib.Nat.{mul-assoc, mul-le-mul-left}
 use mathlib.Core.Path.{_≡_, refl, subst}
 use mathlib.Core.Bool.{false, _||_}
 use mathlib.Core.List.{List, [], _∷_, _++_}
-use lib.Dec.{ltb, leb, eqb}
+use lib.Dec.{ltb, eqb}
 use lib.ListN.{length, getD}
 use borrow.Author.Tests.{ne-eqb, le-ltb, lt-leb, ltb-false, eqb-false}
 use Rattle.fields.specs.Checked.{Checked, good, bad}
-use Rattle.fields.proofs.Choice.{each, neither-left, neither-right}
-use Rattle.lut_clut_meaning.specs.Clut.{some, isOver, isFlat, partials, overflows, mostEntries, gridAt, tableAt, shapeOf, clutOf}
-use Rattle.lut_clut_meaning.specs.Table.{Table, product, entriesOf, lengthOf, lastOf}
-use Rattle.lut_clut_meaning.proofs.Grid.{factors, last-below}
+use Rattle.fields.specs.Some.{some}
+use Rattle.fields.proofs.Choice.{each, through, neither-left, neither-right}
+use Rattle.fields.proofs.Never.{never}
+use Rattle.lut_clut_meaning.specs.Clut.{isOver, isFlat, partials, overflows, mostEntries, gridAt, tableAt, gridChecked, dataOf, clutOf}
+use Rattle.lut_clut_meaning.specs.Table.{Table, product, entriesOf, lengthOf}
+use Rattle.lut_clut_meaning.proofs.Grid.{factors}
 
 -- the tag t, of so many channels, has the table at `at`, its reserved bytes and the grid points out of use aside
 pub record Laid (t : List ℕ) (at inputs outputs : ℕ) (table : Table) : Type 0 where
@@ -59,20 +61,24 @@ product-last (g ∷ gs) n = rw (product-last gs n) (omega arith)
 pub there : (t : List ℕ) (at inputs outputs : ℕ) (table : Table) → Laid t at inputs outputs table → tableAt t at (gridAt t at inputs) outputs ≡ table
 there t at inputs outputs table h = rw (← h .grid-is, ← h .outputs-are, ← h .start-is, ← h .size-is)
 
+grid-passes : (table : Table) → Within table → gridChecked table ≡ good tt
+unfolding gridChecked
+grid-passes table w =
+    let grid : List ℕ = table .grid in
+    let outputs : ℕ = table .outputs in
+    let no-over : overflows grid outputs ≡ false = none-over 1 (grid ++ (outputs ∷ [])) (rw (product-last grid outputs) (w .one)) (rw (product-last grid outputs) (omega (arith, w .few))) in
+    let some-are : entriesOf table ≡ 0 → ⊥ = λ e. omega (arith, w .one) in
+    rw (no-over, ne-eqb _ _ some-are, le-ltb _ _ (w .few), none-flat grid (w .wide))
+
 module _ (t : List ℕ) (at inputs outputs : ℕ) where
   abbrev read : Table
   read = tableAt t at (gridAt t at inputs) outputs
 
   read-accepted : Laid t at inputs outputs read → Within read → clutOf t at inputs outputs ≡ good read
-  unfolding clutOf shapeOf
+  unfolding clutOf dataOf
   read-accepted h w =
-      let grid : List ℕ = gridAt t at inputs in
-      let n : ℕ = product grid * outputs in
-      let v : some isFlat grid ≡ false = none-flat grid (w .wide) in
       let header : at + 20 ≤ length t = omega (arith, h .whole) in
-      let no-over : overflows grid outputs ≡ false = none-over 1 (grid ++ (outputs ∷ [])) (rw (product-last grid outputs) (w .one)) (rw (product-last grid outputs) (omega (arith, w .few))) in
-      let some-are : n ≡ 0 → ⊥ = λ e. omega (arith, w .one) in
-      rw (le-ltb _ _ header, no-over, ne-eqb _ _ some-are, le-ltb _ _ (w .few), v, lt-leb _ _ (last-below read (w .one)), le-ltb _ _ (h .size-least), le-ltb _ _ (h .size-most), le-ltb _ _ (h .whole))
+      rw (le-ltb _ _ header, grid-passes read w, le-ltb _ _ (h .size-least), le-ltb _ _ (h .size-most), le-ltb _ _ (h .whole))
 
   pub conforms : (table : Table) → Laid t at inputs outputs table → Within table → clutOf t at inputs outputs ≡ good table
   conforms table h w = let e = there t at inputs outputs table h in rw (← e) (read-accepted (rw (← e) at h) (rw (← e) at w))
@@ -85,6 +91,18 @@ each-wide [] h i l = absurd (omega arith)
 each-wide (g ∷ gs) h zero l = ltb-false g 2 (neither-left (ltb g 2) (some isFlat gs) h)
 each-wide (g ∷ gs) h (suc i) l = each-wide gs (neither-right (ltb g 2) (some isFlat gs) h) i (omega arith)
 
+-- what checks 4 to 7 let pass
+pub grid-passed : (table : Table) → gridChecked table ≡ good tt → Within table
+unfolding gridChecked
+grid-passed table =
+    let P : Checked Unit → Type 0 = λ c. c ≡ good tt → Within table in
+    let n : ℕ = entriesOf table in
+    each P (overflows (table .grid) (table .outputs)) _ _ (λ _ h. never cc)
+    (λ _. each P (eqb n 0) _ _ (λ _ h. never cc)
+    (λ z. each P (ltb mostEntries n) _ _ (λ _ h. never cc)
+    (λ m. each P (some isFlat (table .grid)) _ _ (λ _ h. never cc)
+    (λ f h. record { wide = each-wide (table .grid) f; one = (let y = eqb-false n 0 z in omega arith); few = ltb-false mostEntries n m }))))
+
 pub record Accepted (t : List ℕ) (at inputs outputs : ℕ) (table : Table) : Type 0 where
   pub laid : Laid t at inputs outputs table
   pub within : Within table
@@ -94,20 +112,15 @@ Facts t at inputs outputs (good table) = Accepted t at inputs outputs table
 Facts t at inputs outputs (bad n) = Unit
 
 facts : (t : List ℕ) (at inputs outputs : ℕ) → Facts t at inputs outputs (clutOf t at inputs outputs)
-unfolding Facts clutOf shapeOf
+unfolding Facts clutOf dataOf
 facts t at inputs outputs =
     let P : Checked Table → Type 0 = Facts t at inputs outputs in
-    let grid : List ℕ = gridAt t at inputs in
-    let n : ℕ = product grid * outputs in
-    let s : ℕ = getD t (at + 16) 0 in
+    let table : Table = read t at inputs outputs in
+    let s : ℕ = table .size in
     each P (ltb (length t) (at + 20)) _ _ (λ _. tt)
-    (λ _. each P (overflows grid outputs) _ _ (λ _. tt)
-    (λ _. each P (eqb n 0) _ _ (λ _. tt)
-    (λ z. each P (ltb mostEntries n) _ _ (λ _. tt)
-    (λ m. each P (some isFlat grid) _ _ (λ _. tt)
-    (λ f. each P (leb n (lastOf grid * outputs)) _ _ (λ _. tt)
-    (λ _. each P (ltb s 1 || ltb 2 s) _ _ (λ _. tt)
-    (λ d. each P (ltb (length t) (at + 20 + n * s)) _ _ (λ _. tt)
+    (λ _. through P (gridChecked table) _ (λ _ _. tt)
+    (λ _ g. each P (ltb s 1 || ltb 2 s) _ _ (λ _. tt)
+    (λ d. each P (ltb (length t) (at + 20 + lengthOf table)) _ _ (λ _. tt)
     (λ e.
     record {
       laid = record {
@@ -119,8 +132,8 @@ facts t at inputs outputs =
         size-most = ltb-false 2 s (neither-right (ltb s 1) (ltb 2 s) d);
         whole = ltb-false (length t) _ e;
       };
-      within = record { wide = each-wide grid f; one = (let y = eqb-false n 0 z in omega arith); few = ltb-false mostEntries n m };
-    }))))))))
+      within = grid-passed table g;
+    }))))
 
 pub accepted : (t : List ℕ) (at inputs outputs : ℕ) (table : Table) → clutOf t at inputs outputs ≡ good table → Accepted t at inputs outputs table
 unfolding Facts

@@ -2,6 +2,7 @@ pub mod Grid
 pub mod Order
 pub mod Unique
 pub mod Laid
+pub mod Last
 pub mod Inside
 pub mod Refuses
 pub mod Cases

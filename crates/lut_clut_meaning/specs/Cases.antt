@@ -1,26 +1,25 @@
 -- The worked cases of the colour table: calls at an offset of a tag, and their answers.
-use Prim.Native.Nat.{ℕ, pred, _*_}
+use Prim.Native.Nat.{ℕ, pred}
 use mathlib.Core.Path.{_≡_}
 use mathlib.Core.List.{List, [], _∷_, _++_, map}
 use lib.ListN.{take, replicate}
 use Rattle.fields.specs.Checked.{Checked, good, bad}
 use Rattle.lut_clut_meaning.specs.Answer.{Answer, value, refused, answerOf}
 use Rattle.lut_clut_meaning.specs.Clut.{clutOf}
-use Rattle.lut_clut_meaning.specs.Table.{Table, entriesOf, pointOf, lastOf, entryNumber}
+use Rattle.lut_clut_meaning.specs.Table.{Table, entriesOf, pointOf, entryNumber}
 
 pub data Case : Type 0 where
   -- tag, input and output channels, and the answer at offset 0
   gives : List ℕ → ℕ → ℕ → Answer → Case
   -- tag, offset, input and output channels, and the answer
   givesAt : List ℕ → ℕ → ℕ → ℕ → Answer → Case
-  -- tag, input and output channels, and of the table there the entries, what check 18 compares them with, and the last entry's number
+  -- tag, input and output channels, and of the table there the entries and the last entry's number
   numbers : List ℕ → ℕ → ℕ → List ℕ → Case
   -- a grid, and the number of one of its points
   point : List ℕ → List ℕ → ℕ → Case
 
 unfoldable pub numbersIn : Checked Table → List ℕ
-numbersIn (good table) =
-    entriesOf table ∷ lastOf (table .grid) * table .outputs ∷ entryNumber table (map pred (table .grid)) (pred (table .outputs)) ∷ []
+numbersIn (good table) = entriesOf table ∷ entryNumber table (map pred (table .grid)) (pred (table .outputs)) ∷ []
 numbersIn (bad n) = []
 
 unfoldable pub Holds : Case → Type 0
@@ -45,7 +44,7 @@ shapeOnly grid = grid ++ (1 ∷ 0 ∷ 0 ∷ 0 ∷ [])
 abbrev pub cases : List Case
 cases =
     gives (tag cube 1) 3 3 (value 8 20 24 1) ∷
-    numbers (tag cube 1) 3 3 (24 ∷ 21 ∷ 23 ∷ []) ∷
+    numbers (tag cube 1) 3 3 (24 ∷ 23 ∷ []) ∷
     gives (tag cube 2) 3 3 (refused 2) ∷
     gives (tag cube 3) 3 3 (refused 8) ∷
     gives (tag (200 ∷ 200 ∷ 50 ∷ 0 ∷ []) 1) 3 5 (refused 2) ∷
@@ -56,12 +55,13 @@ cases =
     gives (tag (1 ∷ 2 ∷ 2 ∷ 0 ∷ []) 1) 3 3 (refused 7) ∷
     -- six points of two entries of two bytes each, two bytes behind the front of the tag
     givesAt (9 ∷ 9 ∷ tag (2 ∷ 3 ∷ 0 ∷ 0 ∷ []) 2) 2 2 2 (value 6 22 24 2) ∷
-    numbers (tag (2 ∷ 3 ∷ 0 ∷ 0 ∷ []) 2) 2 2 (12 ∷ 10 ∷ 11 ∷ []) ∷
+    numbers (tag (2 ∷ 3 ∷ 0 ∷ 0 ∷ []) 2) 2 2 (12 ∷ 11 ∷ []) ∷
     -- the points of the last dimension stand side by side
     point (2 ∷ 3 ∷ []) (0 ∷ 1 ∷ []) 1 ∷
     point (2 ∷ 3 ∷ []) (1 ∷ 0 ∷ []) 3 ∷
     -- without input channels there is one point
     gives (tag cube 1) 0 3 (value 1 20 3 1) ∷
+    numbers (tag cube 1) 0 3 (3 ∷ 2 ∷ []) ∷
     -- no byte an entry; a dimension of 1 comes before that
     gives (tag cube 0) 3 3 (refused 8) ∷
     gives (tag (2 ∷ 1 ∷ 2 ∷ 0 ∷ []) 0) 3 3 (refused 7) ∷

@@ -6,12 +6,13 @@
 --   17 to 19  reserved, 0
 --   20 on     the entries
 use Prim.Native.Nat.{ℕ, _+_, _*_, _^_, min}
-use mathlib.Core.Bool.{Bool, false, cond, _||_}
+use mathlib.Core.Bool.{Bool, cond, _||_}
 use mathlib.Core.List.{List, [], _∷_, _++_}
 use lib.Dec.{ltb, leb, eqb}
 use lib.ListN.{length, getD, take, drop}
-use Rattle.fields.specs.Checked.{Checked, good, bad}
-use Rattle.lut_clut_meaning.specs.Table.{Table, entriesOf, lengthOf, lastOf}
+use Rattle.fields.specs.Checked.{Checked, good, bad, andThen}
+use Rattle.fields.specs.Some.{some}
+use Rattle.lut_clut_meaning.specs.Table.{Table, entriesOf, lengthOf}
 
 -- the grid in use: of the sixteen bytes, one for each input channel
 abbrev pub gridAt : List ℕ → ℕ → ℕ → List ℕ
@@ -20,11 +21,6 @@ gridAt t at inputs = take (min inputs 16) (drop at t)
 -- the table there, on a grid
 abbrev pub tableAt : List ℕ → ℕ → List ℕ → ℕ → Table
 tableAt t at grid outputs = record { grid = grid; outputs = outputs; start = at + 20; size = getD t (at + 16) 0 }
-
--- some element passes the test
-unfoldable pub some : (ℕ → Bool) → List ℕ → Bool
-some f [] = false
-some f (x ∷ xs) = f x || some f xs
 
 -- the partial products: p, p times the first, and so on
 unfoldable pub partials : ℕ → List ℕ → List ℕ
@@ -47,21 +43,26 @@ isFlat g = ltb g 2
 abbrev pub mostEntries : ℕ
 mostEntries = 10000000
 
--- a table whose entries are counted: its dimensions, its last point, the bytes of an entry and the data
-unfoldable pub shapeOf : List ℕ → Table → Checked Table
-shapeOf t table =
+-- checks 4 to 7: the product of the grid and the output channels, then the dimensions
+unfoldable pub gridChecked : Table → Checked Unit
+gridChecked table =
+    cond (overflows (table .grid) (table .outputs)) (bad 4) (
+    cond (eqb (entriesOf table) 0) (bad 5) (
+    cond (ltb mostEntries (entriesOf table)) (bad 6) (
     cond (some isFlat (table .grid)) (bad 7) (
-    cond (leb (entriesOf table) (lastOf (table .grid) * table .outputs)) (bad 18) (
+    good tt))))
+
+-- the bytes of an entry and the data, then the table
+unfoldable pub dataOf : List ℕ → Table → Checked Table
+dataOf t table =
     cond (ltb (table .size) 1 || ltb 2 (table .size)) (bad 8) (
     cond (ltb (length t) (table .start + lengthOf table)) (bad 2) (
-    good table))))
+    good table))
 
 -- the colour table at `at` of a tag with so many input and output channels
 unfoldable pub clutOf : List ℕ → ℕ → ℕ → ℕ → Checked Table
 clutOf t at inputs outputs =
     let table = tableAt t at (gridAt t at inputs) outputs in
     cond (ltb (length t) (table .start)) (bad 2) (
-    cond (overflows (table .grid) outputs) (bad 4) (
-    cond (eqb (entriesOf table) 0) (bad 5) (
-    cond (ltb mostEntries (entriesOf table)) (bad 6) (
-    shapeOf t table))))
+    andThen (gridChecked table) (
+    dataOf t table))

@@ -40,7 +40,7 @@ curve-other limit s n e z = curve-not-14 limit s (e ∙ ap bad z)
 
 part-other : (walk : Walk) (limit : ℕ) (t : List ℕ) (n : ℕ) → PartRefused walk limit t n → Other n
 part-other walk limit t =
-    part-refuses Other (λ z. omega arith) (λ z. omega arith) (λ z. omega arith) (λ z. omega arith) (λ z. omega arith) (λ z. omega arith) (λ z. omega arith) limit t (curve-other limit) walk
+    part-refuses Other (λ z. omega arith) (λ z. omega arith) (λ z. omega arith) (λ z. omega arith) (λ z. omega arith) (λ z. omega arith) limit t (curve-other limit) walk
 
 mft-other : (points : ℕ) (t : List ℕ) → fromMft (answerOf t (mftOf points t)) .state ≡ refused 14 → ⊥
 unfolding answerOf

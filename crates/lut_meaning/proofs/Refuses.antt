@@ -18,7 +18,7 @@ use Rattle.lut_meaning.specs.Layout.{inputs, outputs, matrixOffset, matr
 use Rattle.lut_meaning.specs.Parts.{matrixChecked, noTable, colourTableOf, ended}
 use Rattle.lut_meaning.proofs.Found.{PartRefused, the-matrix, the-table, a-run}
 
-module _ (Q : ℕ → Type 0) (two : Q 2) (four : Q 4) (five : Q 5) (six : Q 6) (seven : Q 7) (eight : Q 8) (eighteen : Q 18) (limit : ℕ) (t : List ℕ) (curves : (s : List ℕ) → Only Q (curveOf limit s)) where
+module _ (Q : ℕ → Type 0) (two : Q 2) (four : Q 4) (five : Q 5) (six : Q 6) (seven : Q 7) (eight : Q 8) (limit : ℕ) (t : List ℕ) (curves : (s : List ℕ) → Only Q (curveOf limit s)) where
   matrix-refuses : Only Q (matrixChecked t)
   unfolding matrixChecked
   matrix-refuses =
@@ -31,7 +31,7 @@ module _ (Q : ℕ → Type 0) (two : Q 2) (four : Q 4) (five : Q 5) (six : Q 6) 
   table-refuses =
       let P : Checked Table → Type 0 = Only Q in
       each P (eqb (clutOffset t) 0) _ _ (λ _. only-good Q noTable)
-      (λ _. clut-refuses Q two four five six seven eight eighteen t (clutOffset t) (inputs t) (outputs t))
+      (λ _. clut-refuses Q two four five six seven eight t (clutOffset t) (inputs t) (outputs t))
 
   curve-refuses : (at : ℕ) → Only Q (curveAtOffset limit t at)
   unfolding curveAtOffset

@@ -5,13 +5,13 @@ use native.Mathlib.Omega.{arith}
 use native.Mathlib.Numerals.{add-one}
 use native.Mathlib.Nat.{mul-le-mul, pow-zero, pow-suc}
 use mathlib.Core.Path.{_≡_, refl, sym, _∙_}
-use mathlib.Core.Bool.{Bool, true, false, not, _||_}
+use mathlib.Core.Bool.{Bool, true, false}
 use mathlib.Core.List.{List}
-use lib.Dec.{ltb, eqb}
+use lib.Dec.{ltb}
 use lib.ListN.{length, getD, replicate}
 use mir.Syntax.{w64}
 use mir.Val.{Fits}
-use borrow.Author.Tests.{eq-eqb, ne-eqb, lt-ltb, le-ltb, ltb-false}
+use borrow.Author.Tests.{eq-eqb, ne-eqb, lt-ltb, le-ltb}
 use Rattle.lut_clut_meaning.specs.Table.{pointsOf}
 use Rattle.lut_clut_meaning.proofs.Grid.{power-is}
 use Rattle.fields.specs.Bytes.{u16At, u32At, wordsAt}
@@ -19,13 +19,13 @@ use Rattle.fields.specs.Refusals.{refusalNumber}
 use Rattle.fields.specs.Tag.{signatureOf}
 use Rattle.fields.specs.declared.Kind.the-variants.{Mft1}
 use Rattle.fields.specs.declared.Refusal.{Refusal}
-use Rattle.fields.proofs.Choice.{neither-left, neither-right}
 use Rattle.lut_mft_meaning.specs.Answer.{State, value, refused, stateFrom, fieldsOf, answerOf}
 use Rattle.lut_mft_meaning.specs.Layout.{isWide, isMft, shortest, inputs, outputs, gridPoints, inputEntries, outputEntries, entrySize, tablesStart, entriesAt, colourTable}
 use Rattle.lut_mft_meaning.specs.Mft.{outside, mostTableEntries, badEntries, badChannels, badNumbers, tablesOf, numbersOf, mftOf}
 use Rattle.lut_mft_meaning.specs.declared.MftAnswer.{MftAnswer}
 use Rattle.lut_mft_meaning.specs.declared.MftTable.{MftTable}
 use Rattle.lut_mft_meaning.proofs.Inside.{power-most}
+use Rattle.lut_mft_meaning.proofs.Laid.{good}
 use Rattle.lut_mft.specs.Sized.{Sized}
 
 -- ---- what the type decides
@@ -172,16 +172,6 @@ module _ (t : List ℕ) (points : ℕ) (ep : points ≡ pointsOf (colourTable t)
 
 -- ---- the numbers, then the tables
 
--- good numbers have four input channels at most
-pub four-inputs : (t : List ℕ) → badNumbers t ≡ false → inputs t ≤ 4
-unfolding badNumbers badChannels outside
-four-inputs t e =
-    let n : ℕ = inputs t in
-    let m : ℕ = outputs t in
-    let c : badChannels t ≡ false = neither-right (badEntries t) (badChannels t) (neither-left _ (ltb (gridPoints t) 2) e) in
-    let i : outside 1 n 4 ≡ false = neither-left _ (outside 1 m 4) (neither-left _ (not (eqb n 3 || eqb m 3)) c) in
-    ltb-false 4 n (neither-right (ltb n 1) (ltb 4 n) i)
-
 module _ (limit : ℕ) (t : List ℕ) (b : Bool) (e : b ≡ badNumbers t) where
   pub numbers-bad : b ≡ true → refused 15 ≡ numbersOf limit t
   unfolding numbersOf
@@ -189,7 +179,7 @@ module _ (limit : ℕ) (t : List ℕ) (b : Bool) (e : b ≡ badNumbers t) where
 
   module _ (w : b ≡ false) (g n : ℕ) (eg : g ≡ getD t 10 0) (en : n ≡ getD t 8 0) where
     pub few-channels : n ≤ 4
-    few-channels = rw (← en) at (four-inputs t (sym e ∙ w))
+    few-channels = rw (← en) at (good t (sym e ∙ w) .few-inputs)
 
     module _ (p : ℕ) (ep : p ≡ g ^ n) where
       pub points-are : p ≡ pointsOf (colourTable t)

@@ -1,23 +1,24 @@
 -- Demand 1 of `mft1` and `mft2`: in an accepted answer the matrix and the three tables lie inside the tag, and each valid grid index reads
--- inside the colour table. And why nothing overflows: the grid points fit 32 bits, the bytes of the colour table 35.
+-- inside the colour table. And why nothing overflows, whatever the limit and the tag's length.
 -- Assumes nothing.
 use Prim.Native.Nat.{ℕ, _+_, _*_, _^_, _≤_, _<_}
 use native.Mathlib.Omega.{arith}
 use native.Mathlib.Nat.{le-trans, mul-le-mul, pow-le-pow-left, pow-le-pow-right}
 use mathlib.Core.Path.{_≡_, refl}
-use mathlib.Core.Bool.{Bool, true, false, cond}
+use mathlib.Core.Bool.{true, false}
 use mathlib.Core.List.{List}
 use mathlib.Core.Logic.{_⊎_, inl, inr}
 use lib.ListN.{length}
 use Rattle.fields.specs.Bytes.{u32At}
 use Rattle.fields.specs.Tag.{signatureOf}
 use Rattle.fields.specs.declared.Kind.the-variants.{Mft1, Mft2}
+use Rattle.fields.proofs.Choice.{each}
 use Rattle.lut_clut_meaning.specs.Table.{pointsOf, lengthOf, inGrid, entryNumber}
 use Rattle.lut_clut_meaning.proofs.Grid.{entry-below, power-is}
 use Rattle.lut_mft_meaning.specs.Answer.{Fields, value, fieldsOf, toldTable}
-use Rattle.lut_mft_meaning.specs.Layout.{isWide, inputs, outputs, gridPoints, entrySize, colourTable}
-use Rattle.lut_mft_meaning.specs.Mft.{mftOf}
-use Rattle.lut_mft_meaning.proofs.Laid.{accepted, start-least}
+use Rattle.lut_mft_meaning.specs.Layout.{isWide, shortest, inputs, outputs, gridPoints, entrySize, tablesStart, inputLength, outputLength, colourTable, tablesEnd}
+use Rattle.lut_mft_meaning.specs.Mft.{mostTableEntries, badNumbers, mftOf}
+use Rattle.lut_mft_meaning.proofs.Laid.{good, accepted, start-least}
 
 -- the type tells the bytes of an entry
 type-told : (t : List ℕ) → (u32At t 0 ≡ signatureOf Mft1) ⊎ (u32At t 0 ≡ signatureOf Mft2) → ((u32At t 0 ≡ signatureOf Mft1) × (entrySize t ≡ 1)) ⊎ ((u32At t 0 ≡ signatureOf Mft2) × (entrySize t ≡ 2))
@@ -68,20 +69,34 @@ power-most g n l m =
 
 size-most : (t : List ℕ) → entrySize t ≤ 2
 unfolding entrySize
-size-most t = by (isWide t)
-  where
-    by : (b : Bool) → cond b 2 1 ≤ 2
-    by true = omega arith
-    by false = omega arith
+size-most t = each (λ (n : ℕ). n ≤ 2) (isWide t) 2 1 (λ _. omega arith) (λ _. omega arith)
 
+start-most : (t : List ℕ) → tablesStart t ≤ 52
+unfolding tablesStart
+start-most t = each (λ (n : ℕ). n ≤ 52) (isWide t) 52 shortest (λ _. omega arith) (λ _. omega arith)
+
+-- 255^4 points; 4,096 entries in each of four channels, two bytes an entry; 255^4 points of four channels, two bytes each; and the end of all
 pub record Widths (t : List ℕ) : Type 0 where
   pub points-fit : pointsOf (colourTable t) < 2 ^ 32
+  pub input-fits : inputLength t < 2 ^ 16
+  pub output-fits : outputLength t < 2 ^ 16
   pub bytes-fit : lengthOf (colourTable t) < 2 ^ 35
+  pub end-fits : tablesEnd t < 2 ^ 35
 
--- 255^4 points of four channels, two bytes each
-pub widths : (limit : ℕ) (t : List ℕ) (f : Fields) → mftOf limit t ≡ value f → gridPoints t < 256 → Widths t
+-- of every tag that check 15 lets pass: its products are made before 16 and 2 are judged
+pub widths : (t : List ℕ) → badNumbers t ≡ false → gridPoints t < 256 → Widths t
 unfolding colourTable
-widths limit t f h l =
-    let a = accepted limit t f h in
-    let points : pointsOf (colourTable t) ≤ 255 ^ 4 = rw (power-is (inputs t) (gridPoints t)) (power-most (gridPoints t) (inputs t) l (a .asked .few-inputs)) in
-    record { points-fit = omega (arith, points); bytes-fit = omega (arith, mul-le-mul (mul-le-mul points (a .asked .few-outputs)) (size-most t)) }
+widths t b l =
+    let g = good t b in
+    let size = size-most t in
+    let points : pointsOf (colourTable t) ≤ 255 ^ 4 = rw (power-is (inputs t) (gridPoints t)) (power-most (gridPoints t) (inputs t) l (g .few-inputs)) in
+    let bytes : lengthOf (colourTable t) ≤ 255 ^ 4 * 4 * 2 = mul-le-mul (mul-le-mul points (g .few-outputs)) size in
+    let input : inputLength t ≤ mostTableEntries * 4 * 2 = mul-le-mul (mul-le-mul (g .input-most) (g .few-inputs)) size in
+    let output : outputLength t ≤ mostTableEntries * 4 * 2 = mul-le-mul (mul-le-mul (g .output-most) (g .few-outputs)) size in
+    record {
+      points-fit = omega (arith, points);
+      input-fits = omega (arith, input);
+      output-fits = omega (arith, output);
+      bytes-fit = omega (arith, bytes);
+      end-fits = omega (arith, start-most t, input, bytes, output);
+    }

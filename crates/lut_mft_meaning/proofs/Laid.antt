@@ -3,7 +3,7 @@
 use Prim.Native.Nat.{ℕ, _≤_}
 use native.Mathlib.Omega.{arith}
 use mathlib.Core.Path.{_≡_, refl, subst}
-use mathlib.Core.Bool.{Bool, true, false, cond, not, _||_, or-true, true≢false}
+use mathlib.Core.Bool.{Bool, true, false, not, _||_, or-true, true≢false}
 use mathlib.Core.List.{List}
 use mathlib.Core.Logic.{_⊎_, inl, inr}
 use lib.Dec.{ltb, eqb}
@@ -62,11 +62,7 @@ type-known t (inr e) = rw (eq-eqb _ _ e, or-true)
 -- the tables start behind the matrix
 pub start-least : (t : List ℕ) → shortest ≤ tablesStart t
 unfolding tablesStart
-start-least t = by (isWide t)
-  where
-    by : (b : Bool) → shortest ≤ cond b 52 shortest
-    by true = omega arith
-    by false = omega arith
+start-least t = each (λ (n : ℕ). shortest ≤ n) (isWide t) 52 shortest (λ _. omega arith) (λ _. omega arith)
 
 pub start-before : (t : List ℕ) → tablesStart t ≤ tablesEnd t
 unfolding colourTable
@@ -107,25 +103,26 @@ one-is a b c d e = elim (one-of (eqb a b) (eqb c d) e) [
   | inr x ↦ inr (eqb-true c d x)
 ]
 
-Facts : ℕ → List ℕ → State → Type 0
-Facts limit t (value f) = Accepted limit t f
-Facts limit t (refused n) = Unit
+-- the numbers that check 15 lets pass
+pub record Good (t : List ℕ) : Type 0 where
+  pub input-least : 2 ≤ inputEntries t
+  pub input-most : inputEntries t ≤ mostTableEntries
+  pub output-least : 2 ≤ outputEntries t
+  pub output-most : outputEntries t ≤ mostTableEntries
+  pub some-inputs : 1 ≤ inputs t
+  pub few-inputs : inputs t ≤ 4
+  pub some-outputs : 1 ≤ outputs t
+  pub few-outputs : outputs t ≤ 4
+  pub three : (inputs t ≡ 3) ⊎ (outputs t ≡ 3)
+  pub wide : 2 ≤ gridPoints t
 
-facts : (limit : ℕ) (t : List ℕ) → Facts limit t (mftOf limit t)
-unfolding Facts mftOf numbersOf tablesOf badNumbers badEntries badChannels isMft isWide
-facts limit t =
-    let P : State → Type 0 = Facts limit t in
+pub good : (t : List ℕ) → badNumbers t ≡ false → Good t
+unfolding badNumbers badEntries badChannels
+good t b =
     let i : ℕ = inputs t in
     let o : ℕ = outputs t in
     let n : ℕ = inputEntries t in
     let m : ℕ = outputEntries t in
-    each P (ltb (length t) shortest) _ _ (λ _. tt)
-    (λ _. each P (not (isMft t)) _ _ (λ _. tt)
-    (λ k. each P (ltb (length t) (tablesStart t)) _ _ (λ _. tt)
-    (λ _. each P (badEntries t || badChannels t || ltb (gridPoints t) 2) _ _ (λ _. tt)
-    (λ b. each P (ltb limit (pointsOf (colourTable t))) _ _ (λ _. tt)
-    (λ p. each P (ltb (length t) (tablesEnd t)) _ _ (λ _. tt)
-    (λ e.
     let e-c : badEntries t || badChannels t ≡ false = neither-left _ (ltb (gridPoints t) 2) b in
     let es : outside 2 n mostTableEntries || outside 2 m mostTableEntries ≡ false = neither-left (badEntries t) (badChannels t) e-c in
     let cs : outside 1 i 4 || outside 1 o 4 || not (eqb i 3 || eqb o 3) ≡ false = neither-right (badEntries t) (badChannels t) e-c in
@@ -135,21 +132,50 @@ facts limit t =
     let ci : outside 1 i 4 ≡ false = neither-left _ (outside 1 o 4) sides in
     let co : outside 1 o 4 ≡ false = neither-right (outside 1 i 4) _ sides in
     record {
+      input-least = outside-least 2 n mostTableEntries ni;
+      input-most = outside-most 2 n mostTableEntries ni;
+      output-least = outside-least 2 m mostTableEntries no;
+      output-most = outside-most 2 m mostTableEntries no;
+      some-inputs = outside-least 1 i 4 ci;
+      few-inputs = outside-most 1 i 4 ci;
+      some-outputs = outside-least 1 o 4 co;
+      few-outputs = outside-most 1 o 4 co;
+      three = one-is i 3 o 3 (neither-right (outside 1 i 4 || outside 1 o 4) _ cs);
+      wide = ltb-false (gridPoints t) 2 (neither-right (badEntries t || badChannels t) _ b);
+    }
+
+Facts : ℕ → List ℕ → State → Type 0
+Facts limit t (value f) = Accepted limit t f
+Facts limit t (refused n) = Unit
+
+facts : (limit : ℕ) (t : List ℕ) → Facts limit t (mftOf limit t)
+unfolding Facts mftOf numbersOf tablesOf isMft isWide
+facts limit t =
+    let P : State → Type 0 = Facts limit t in
+    each P (ltb (length t) shortest) _ _ (λ _. tt)
+    (λ _. each P (not (isMft t)) _ _ (λ _. tt)
+    (λ k. each P (ltb (length t) (tablesStart t)) _ _ (λ _. tt)
+    (λ _. each P (badNumbers t) _ _ (λ _. tt)
+    (λ b. each P (ltb limit (pointsOf (colourTable t))) _ _ (λ _. tt)
+    (λ p. each P (ltb (length t) (tablesEnd t)) _ _ (λ _. tt)
+    (λ e.
+    let g = good t b in
+    record {
       laid = record {
         type-is = one-is _ _ _ _ k;
-        input-least = outside-least 2 n mostTableEntries ni;
-        input-most = outside-most 2 n mostTableEntries ni;
-        output-least = outside-least 2 m mostTableEntries no;
-        output-most = outside-most 2 m mostTableEntries no;
+        input-least = g .input-least;
+        input-most = g .input-most;
+        output-least = g .output-least;
+        output-most = g .output-most;
         whole = ltb-false (length t) (tablesEnd t) e;
       };
       asked = record {
-        some-inputs = outside-least 1 i 4 ci;
-        few-inputs = outside-most 1 i 4 ci;
-        some-outputs = outside-least 1 o 4 co;
-        few-outputs = outside-most 1 o 4 co;
-        three = one-is i 3 o 3 (neither-right (outside 1 i 4 || outside 1 o 4) _ cs);
-        wide = ltb-false (gridPoints t) 2 (neither-right (badEntries t || badChannels t) _ b);
+        some-inputs = g .some-inputs;
+        few-inputs = g .few-inputs;
+        some-outputs = g .some-outputs;
+        few-outputs = g .few-outputs;
+        three = g .three;
+        wide = g .wide;
         within = ltb-false limit _ p;
       };
       fields-are = refl;

@@ -2,16 +2,17 @@
 -- those by the meaning. A refusal has the number of one, and what the meaning answers is the numbers of a result.
 -- Assumes nothing.
 use Prim.Native.Nat.{ℕ, _+_}
-use mathlib.Core.Path.{_≡_, refl, sym, ap, _∙_}
+use mathlib.Core.Path.{_≡_, refl, sym, ap, subst, _∙_}
+use mathlib.Core.Bool.{true}
 use mathlib.Core.List.{List}
 use lib.Dec.{ltb}
 use lib.ListN.{length}
 use Rattle.fields.specs.Bytes.{bytesAt, wordsAt}
 use Rattle.fields.specs.Place.{tagAt}
-use Rattle.fields.specs.Refusals.{refusalNumber, IsRefusal}
+use Rattle.fields.specs.Refusals.{refusalNumber, isRefusal}
 use Rattle.fields.specs.declared.Refusal.{Refusal}
 use Rattle.fields.proofs.Choice.{each}
-use Rattle.fields.proofs.Numbers.{nameOf, named}
+use Rattle.fields.proofs.Numbers.{nameOf, named, listed}
 use Rattle.fields.proofs.Once.{once}
 use Rattle.small_meaning.specs.Answer.{Answer, refused}
 use Rattle.small_meaning.specs.Layout.{nineNumbers, signatureIn, dateBytes, measurement, conditions, firstXyz, codePoints}
@@ -66,10 +67,11 @@ refusal-numbers view why = refl
 refusal-numbers xyz why = refl
 refusal-numbers cicp why = refl
 
-pub small-numbered : (s : Small) (x : SmallResult s) (n : ℕ) → smallNumbers s x ≡ refused n → IsRefusal n
+pub small-numbered : (s : Small) (x : SmallResult s) (n : ℕ) → smallNumbers s x ≡ refused n → isRefusal n ≡ true
 small-numbered s x n e =
     let named-so : refused (refusalNumber (nameOf n)) ≡ refused n = sym (refusal-numbers s (nameOf n)) ∙ ap (smallNumbers s) (ap (smallResult s) (sym e) ∙ back s x) ∙ e in
-    record { why = nameOf n; has = cc }
+    let same : refusalNumber (nameOf n) ≡ n = cc in
+    subst (λ (m : ℕ). isRefusal m ≡ true) same (listed (nameOf n))
 
 -- ---- from a meaning to its result and back
 

@@ -102,7 +102,6 @@ fn number_of(job: &Job, error: &CmsError) -> Result<u32, String> {
         CmsError::IncorrectlyFormedLut(text) if text.contains("was zero") => 5,
         CmsError::IncorrectlyFormedLut(text) if text.contains("exceeded 10_000_000") => 6,
         CmsError::IncorrectlyFormedLut(text) if text.contains("less than 2") => 7,
-        CmsError::IncorrectlyFormedLut(text) if text.contains("at least") => 18,
         CmsError::MalformedTrcCurve(text) if text == "Unknown parametric curve tag" => 9,
         CmsError::CurveLutIsTooLarge => 10,
         CmsError::MalformedTrcCurve(text) if text == "Parametric curve has unknown entries count" => 12,

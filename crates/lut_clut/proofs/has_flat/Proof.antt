@@ -4,7 +4,8 @@ use Prim.Native.Nat.{_≤_, _-_}
 use mathlib.Core.Path.{_≡_}
 use lib.ListN.{length, drop}
 use borrow.Author.Needs.{needs}
-use Rattle.lut_clut_meaning.specs.Clut.{some, isFlat}
+use Rattle.fields.specs.Some.{some}
+use Rattle.lut_clut_meaning.specs.Clut.{isFlat}
 use Rattle.lut_clut.proofs.Laws.{flat-laws}
 use Rattle.lut_clut.proofs.has_flat.Statement.{statement}
 use Rattle.lut_clut.proofs.has_flat.Tie as tie
