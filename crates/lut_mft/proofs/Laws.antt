@@ -179,7 +179,7 @@ module _ (limit : ℕ) (t : List ℕ) (b : Bool) (e : b ≡ badNumbers t) where
 
   module _ (w : b ≡ false) (g n : ℕ) (eg : g ≡ getD t 10 0) (en : n ≡ getD t 8 0) where
     pub few-channels : n ≤ 4
-    few-channels = rw (← en) at (good t (sym e ∙ w) .few-inputs)
+    few-channels = rw (← en) at (good t (sym e ∙ w) .1 .few-inputs)
 
     module _ (p : ℕ) (ep : p ≡ g ^ n) where
       pub points-are : p ≡ pointsOf (colourTable t)

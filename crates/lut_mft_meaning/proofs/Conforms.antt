@@ -60,19 +60,18 @@ module _ (limit : ℕ) (t : List ℕ) (size start n m : ℕ) (l : Lut) (s : Seen
   answered en em k =
       let h : LaidOut t = record {
         type-is = s .type-is;
-        input-least = rw (s .n-is) (en .0);
-        input-most = rw (s .n-is) (en .1);
-        output-least = rw (s .m-is) (em .0);
-        output-most = rw (s .m-is) (em .1);
+        entries = record { input-least = rw (s .n-is) (en .0); input-most = rw (s .n-is) (en .1); output-least = rw (s .m-is) (em .0); output-most = rw (s .m-is) (em .1) };
         whole = omega (arith, s .whole, s .start-is, input-bytes, clut-bytes, output-bytes);
       } in
       let w : Asked limit t = record {
-        some-inputs = rw (s .i-is) (k .some-inputs);
-        few-inputs = rw (s .i-is) (k .few-inputs);
-        some-outputs = rw (s .o-is) (k .some-outputs);
-        few-outputs = rw (s .o-is) (k .few-outputs);
-        three = rw (s .i-is, s .o-is) (k .three);
-        wide = rw (s .g-is) (k .wide);
+        grid = record {
+          some-inputs = rw (s .i-is) (k .some-inputs);
+          few-inputs = rw (s .i-is) (k .few-inputs);
+          some-outputs = rw (s .o-is) (k .some-outputs);
+          few-outputs = rw (s .o-is) (k .few-outputs);
+          three = rw (s .i-is, s .o-is) (k .three);
+          wide = rw (s .g-is) (k .wide);
+        };
         within = rw points (k .within);
       } in
       rw (conforms limit t h w, told-fields, s .matrix-is)
@@ -147,13 +146,14 @@ module _ (limit : ℕ) (t : List ℕ) (b : Bytes t) where
   taken : (a c z : List ℕ) → Asked limit t → Taken limit (lutOf a c z)
   unfolding colourTable wordsAt
   taken a c z w =
+      let g = w .grid in
       record {
-        some-inputs = w .some-inputs;
-        few-inputs = w .few-inputs;
-        some-outputs = w .some-outputs;
-        few-outputs = w .few-outputs;
-        three = w .three;
-        wide = w .wide;
+        some-inputs = g .some-inputs;
+        few-inputs = g .few-inputs;
+        some-outputs = g .some-outputs;
+        few-outputs = g .few-outputs;
+        three = g .three;
+        wide = g .wide;
         within = rw (power-is (inputs t) (gridPoints t)) at (w .within);
         matrix = words-below t b 12 9;
       }
@@ -202,8 +202,8 @@ module _ (limit : ℕ) (t : List ℕ) (b : Bytes t) where
         outputEntries = m;
         lut = lutOf a c z;
         rest = r;
-        input-entries = (rw y at (h .input-least), rw y at (h .input-most));
-        output-entries = (rw y at (h .output-least), rw y at (h .output-most));
+        input-entries = (rw y at (h .entries .input-least), rw y at (h .entries .input-most));
+        output-entries = (rw y at (h .entries .output-least), rw y at (h .entries .output-most));
         sized = sized;
         taken = taken a c z w;
         entries-fit = halves-below t b (52 + 2 * u) v;

@@ -89,10 +89,10 @@ unfolding colourTable
 widths t b l =
     let g = good t b in
     let size = size-most t in
-    let points : pointsOf (colourTable t) ≤ 255 ^ 4 = rw (power-is (inputs t) (gridPoints t)) (power-most (gridPoints t) (inputs t) l (g .few-inputs)) in
-    let bytes : lengthOf (colourTable t) ≤ 255 ^ 4 * 4 * 2 = mul-le-mul (mul-le-mul points (g .few-outputs)) size in
-    let input : inputLength t ≤ mostTableEntries * 4 * 2 = mul-le-mul (mul-le-mul (g .input-most) (g .few-inputs)) size in
-    let output : outputLength t ≤ mostTableEntries * 4 * 2 = mul-le-mul (mul-le-mul (g .output-most) (g .few-outputs)) size in
+    let points : pointsOf (colourTable t) ≤ 255 ^ 4 = rw (power-is (inputs t) (gridPoints t)) (power-most (gridPoints t) (inputs t) l (g .1 .few-inputs)) in
+    let bytes : lengthOf (colourTable t) ≤ 255 ^ 4 * 4 * 2 = mul-le-mul (mul-le-mul points (g .1 .few-outputs)) size in
+    let input : inputLength t ≤ mostTableEntries * 4 * 2 = mul-le-mul (mul-le-mul (g .0 .input-most) (g .1 .few-inputs)) size in
+    let output : outputLength t ≤ mostTableEntries * 4 * 2 = mul-le-mul (mul-le-mul (g .0 .output-most) (g .1 .few-outputs)) size in
     record {
       points-fit = omega (arith, points);
       input-fits = omega (arith, input);

@@ -18,25 +18,31 @@ use Rattle.lut_mft_meaning.specs.Answer.{Fields, State, value, refused, 
 use Rattle.lut_mft_meaning.specs.Layout.{isWide, isMft, shortest, inputs, outputs, gridPoints, inputEntries, outputEntries, tablesStart, colourTable, tablesEnd}
 use Rattle.lut_mft_meaning.specs.Mft.{outside, mostTableEntries, badEntries, badChannels, badNumbers, tablesOf, numbersOf, mftOf}
 
--- the tag has one of the two types, holds the numbers that its tables need, and these lie in it; a channel has 2 to 4,096 entries in the input
--- table and in the output table
-pub record LaidOut (t : List ℕ) : Type 0 where
-  pub type-is : (u32At t 0 ≡ signatureOf Mft1) ⊎ (u32At t 0 ≡ signatureOf Mft2)
+-- a channel has 2 to 4,096 entries in the input table and in the output table
+pub record GoodEntries (t : List ℕ) : Type 0 where
   pub input-least : 2 ≤ inputEntries t
   pub input-most : inputEntries t ≤ mostTableEntries
   pub output-least : 2 ≤ outputEntries t
   pub output-most : outputEntries t ≤ mostTableEntries
-  pub whole : tablesEnd t ≤ length t
 
--- what this library asks besides: one to four channels on each side, three on one of them, two points or more in each dimension, and no
--- more in all than the limit
-pub record Asked (limit : ℕ) (t : List ℕ) : Type 0 where
+-- one to four channels on each side, three on one of them, and two points or more in each dimension
+pub record GoodGrid (t : List ℕ) : Type 0 where
   pub some-inputs : 1 ≤ inputs t
   pub few-inputs : inputs t ≤ 4
   pub some-outputs : 1 ≤ outputs t
   pub few-outputs : outputs t ≤ 4
   pub three : (inputs t ≡ 3) ⊎ (outputs t ≡ 3)
   pub wide : 2 ≤ gridPoints t
+
+-- the tag has one of the two types, holds the numbers that its tables need, and these lie in it
+pub record LaidOut (t : List ℕ) : Type 0 where
+  pub type-is : (u32At t 0 ≡ signatureOf Mft1) ⊎ (u32At t 0 ≡ signatureOf Mft2)
+  pub entries : GoodEntries t
+  pub whole : tablesEnd t ≤ length t
+
+-- what this library asks besides, with no more points in all than the limit
+pub record Asked (limit : ℕ) (t : List ℕ) : Type 0 where
+  pub grid : GoodGrid t
   pub within : pointsOf (colourTable t) ≤ limit
 
 -- ---- what is laid out so is accepted
@@ -49,9 +55,9 @@ three-is : (i o : ℕ) → (i ≡ 3) ⊎ (o ≡ 3) → not (eqb i 3 || eqb o 3) 
 three-is i o (inl e) = rw (eq-eqb i 3 e)
 three-is i o (inr e) = rw (eq-eqb o 3 e, or-true)
 
-good-numbers : (limit : ℕ) (t : List ℕ) → LaidOut t → Asked limit t → badNumbers t ≡ false
+good-numbers : (t : List ℕ) → GoodEntries t → GoodGrid t → badNumbers t ≡ false
 unfolding badNumbers badEntries badChannels
-good-numbers limit t h w =
+good-numbers t h w =
     rw (inside-is 2 (inputEntries t) mostTableEntries (h .input-least) (h .input-most), inside-is 2 (outputEntries t) mostTableEntries (h .output-least) (h .output-most), inside-is 1 (inputs t) 4 (w .some-inputs) (w .few-inputs), inside-is 1 (outputs t) 4 (w .some-outputs) (w .few-outputs), three-is (inputs t) (outputs t) (w .three), le-ltb (gridPoints t) 2 (w .wide))
 
 pub type-known : (t : List ℕ) → (u32At t 0 ≡ signatureOf Mft1) ⊎ (u32At t 0 ≡ signatureOf Mft2) → isMft t ≡ true
@@ -73,7 +79,7 @@ unfolding mftOf numbersOf tablesOf
 conforms limit t h w =
     let start : tablesStart t ≤ length t = omega (arith, start-before t, h .whole) in
     let head : shortest ≤ length t = omega (arith, start-least t, start) in
-    rw (le-ltb _ _ head, type-known t (h .type-is), le-ltb _ _ start, good-numbers limit t h w, le-ltb _ _ (w .within), le-ltb _ _ (h .whole))
+    rw (le-ltb _ _ head, type-known t (h .type-is), le-ltb _ _ start, good-numbers t (h .entries) (w .grid), le-ltb _ _ (w .within), le-ltb _ _ (h .whole))
 
 -- ---- what is accepted is laid out so
 
@@ -103,20 +109,8 @@ one-is a b c d e = elim (one-of (eqb a b) (eqb c d) e) [
   | inr x ↦ inr (eqb-true c d x)
 ]
 
--- the numbers that check 15 lets pass
-pub record Good (t : List ℕ) : Type 0 where
-  pub input-least : 2 ≤ inputEntries t
-  pub input-most : inputEntries t ≤ mostTableEntries
-  pub output-least : 2 ≤ outputEntries t
-  pub output-most : outputEntries t ≤ mostTableEntries
-  pub some-inputs : 1 ≤ inputs t
-  pub few-inputs : inputs t ≤ 4
-  pub some-outputs : 1 ≤ outputs t
-  pub few-outputs : outputs t ≤ 4
-  pub three : (inputs t ≡ 3) ⊎ (outputs t ≡ 3)
-  pub wide : 2 ≤ gridPoints t
-
-pub good : (t : List ℕ) → badNumbers t ≡ false → Good t
+-- what check 15 lets pass
+pub good : (t : List ℕ) → badNumbers t ≡ false → GoodEntries t × GoodGrid t
 unfolding badNumbers badEntries badChannels
 good t b =
     let i : ℕ = inputs t in
@@ -130,19 +124,22 @@ good t b =
     let ni : outside 2 n mostTableEntries ≡ false = neither-left _ (outside 2 m mostTableEntries) es in
     let no : outside 2 m mostTableEntries ≡ false = neither-right (outside 2 n mostTableEntries) _ es in
     let ci : outside 1 i 4 ≡ false = neither-left _ (outside 1 o 4) sides in
-    let co : outside 1 o 4 ≡ false = neither-right (outside 1 i 4) _ sides in
-    record {
-      input-least = outside-least 2 n mostTableEntries ni;
-      input-most = outside-most 2 n mostTableEntries ni;
-      output-least = outside-least 2 m mostTableEntries no;
-      output-most = outside-most 2 m mostTableEntries no;
-      some-inputs = outside-least 1 i 4 ci;
-      few-inputs = outside-most 1 i 4 ci;
-      some-outputs = outside-least 1 o 4 co;
-      few-outputs = outside-most 1 o 4 co;
-      three = one-is i 3 o 3 (neither-right (outside 1 i 4 || outside 1 o 4) _ cs);
-      wide = ltb-false (gridPoints t) 2 (neither-right (badEntries t || badChannels t) _ b);
-    }
+    let co : outside 1 o 4 ≡ false = neither-right (outside 1 i 4) _ sides in (
+      record {
+        input-least = outside-least 2 n mostTableEntries ni;
+        input-most = outside-most 2 n mostTableEntries ni;
+        output-least = outside-least 2 m mostTableEntries no;
+        output-most = outside-most 2 m mostTableEntries no;
+      },
+      record {
+        some-inputs = outside-least 1 i 4 ci;
+        few-inputs = outside-most 1 i 4 ci;
+        some-outputs = outside-least 1 o 4 co;
+        few-outputs = outside-most 1 o 4 co;
+        three = one-is i 3 o 3 (neither-right (outside 1 i 4 || outside 1 o 4) _ cs);
+        wide = ltb-false (gridPoints t) 2 (neither-right (badEntries t || badChannels t) _ b);
+      },
+    )
 
 Facts : ℕ → List ℕ → State → Type 0
 Facts limit t (value f) = Accepted limit t f
@@ -161,23 +158,8 @@ facts limit t =
     (λ e.
     let g = good t b in
     record {
-      laid = record {
-        type-is = one-is _ _ _ _ k;
-        input-least = g .input-least;
-        input-most = g .input-most;
-        output-least = g .output-least;
-        output-most = g .output-most;
-        whole = ltb-false (length t) (tablesEnd t) e;
-      };
-      asked = record {
-        some-inputs = g .some-inputs;
-        few-inputs = g .few-inputs;
-        some-outputs = g .some-outputs;
-        few-outputs = g .few-outputs;
-        three = g .three;
-        wide = g .wide;
-        within = ltb-false limit _ p;
-      };
+      laid = record { type-is = one-is _ _ _ _ k; entries = g .0; whole = ltb-false (length t) (tablesEnd t) e };
+      asked = record { grid = g .1; within = ltb-false limit _ p };
       fields-are = refl;
     }))))))
 

@@ -142,7 +142,7 @@ module _ (walk : Walk) (limit points : ℕ) (p : List ℕ) (entry size words : �
       let a = Mft·accepted points t f (w .read-as) in
       let e = a .fields-are in
       let sizes : (1 ≤ f .size) × (f .size ≤ 2) = rw e (mft-sizes t) in
-      let all-used : min (f .inputs) 16 ≡ f .inputs = rw e (omega (arith, a .asked .few-inputs)) in
+      let all-used : min (f .inputs) 16 ≡ f .inputs = rw e (omega (arith, a .asked .grid .few-inputs)) in
       let byte-is : f .grid ≡ getD t 10 0 = ap (λ (x : Fields). x .grid) e in
       let same : gridFrom t 10 0 (min (f .inputs) 16) ≡ replicate (f .inputs) (f .grid) = rw (all-used, byte-is) (again t (f .inputs) 10) in
       let i = mft-inside walk limit points p entry size words f h .1 in
