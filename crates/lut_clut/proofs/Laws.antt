@@ -19,7 +19,7 @@ use Rattle.fields.proofs.Located.{part-is}
 use Rattle.lut_clut_meaning.specs.Clut.{isOver, isFlat, partials, overflows, mostEntries, gridAt, gridChecked, dataOf, clutOf}
 use Rattle.lut_clut_meaning.specs.Table.{product}
 use Rattle.lut_clut_meaning.specs.Answer.{Answer, value, refused, answerOf}
-use Rattle.lut_clut.specs.Counts.{countsOf, Few, DataRead}
+use Rattle.lut_clut.specs.Counts.{countsOf, Counted, DataRead}
 use Rattle.lut_clut.specs.declared.Counts.{Counts}
 
 -- ---- a product in 64 bits
@@ -86,7 +86,7 @@ module _ (l : List ℕ) (i : ℕ) (inv : some isFlat (drop i l) ≡ some isFlat 
 
 -- ---- the data of a table
 
-module _ (t : List ℕ) (at points entries : ℕ) (known : Few t at entries) (s : ℕ) (q : s ≡ getD t (at + 16) 0) where
+module _ (t : List ℕ) (at points entries : ℕ) (known : Counted t at entries) (s : ℕ) (q : s ≡ getD t (at + 16) 0) where
   pub length-fits : (n : ℕ) → n ≡ entries * s → s ≤ 2 → Fits w32 n
   length-fits n e l = let f = known .few in record { fits = omega (arith, e, mul-le-mul f l) }
 
@@ -169,8 +169,8 @@ module _ (t : List ℕ) (at inputs outputs : ℕ) where
           clut-large l = simp (le-ltb _ _ header, told .fits, ← told .entries-are, ne-eqb _ _ z, lt-ltb _ _ l)
 
           module _ (l : entries ≤ mostEntries) where
-            pub clut-few : Few t at entries
-            clut-few = record { header = header; few = l }
+            pub clut-counted : Counted t at entries
+            clut-counted = record { header = header; few = l }
 
             module _ (flat : Bool) (f : flat ≡ some isFlat (take (at + n - at) (drop at t))) where
               flat-is : some isFlat (gridAt t at inputs) ≡ flat

@@ -13,8 +13,8 @@ use Rattle.lut_clut.specs.declared.Counts.{Counts}
 unfoldable pub countsOf : List ℕ → ℕ → Counts
 countsOf grid outputs = cond (overflows grid outputs) Counts.Over (Counts.Fit (product grid) (product grid * outputs))
 
--- the bytes in front of the entries are there, and the entries are not too many
-pub record Few (t : List ℕ) (at entries : ℕ) : Type 0 where
+-- what is known once the entries are counted: the bytes in front of them are there, and they are not too many
+pub record Counted (t : List ℕ) (at entries : ℕ) : Type 0 where
   pub header : at + 20 ≤ length t
   pub few : entries ≤ mostEntries
 

@@ -13,7 +13,7 @@ ghost use Prim.Native.Nat.{_*_, min};
 ghost use Rattle.lut_clut_meaning.specs.Answer.{inNumbers, answerOf};
 ghost use Rattle.fields.specs.Some.{some};
 ghost use Rattle.lut_clut_meaning.specs.Clut.{isFlat, clutOf};
-ghost use Rattle.lut_clut.specs.Counts.{countsOf, Few, DataRead};
+ghost use Rattle.lut_clut.specs.Counts.{countsOf, Counted, DataRead};
 
 const GRID_BYTES: u8 = 16;
 
@@ -89,7 +89,7 @@ fn has_flat(grid: &[u8]) -> bool
 // The table of a grid that passed its checks: the bytes of an entry and the data. That the last point lies in it needs no
 // check (`last-below` of `lut_clut_meaning`).
 fn read_data(tag: &[u8], at: InTag, points: u32, entries: u32) -> ClutAnswer
-    requires { ⌜ Few (now tag) (at .0) entries ⌝ }
+    requires { ⌜ Counted (now tag) (at .0) entries ⌝ }
     ensures { λ r. ⌜ DataRead (now (tag .entry)) (at .0) points entries (inNumbers r) ⌝ }
 {
     let entry_size = fields::u8_at(tag, InTag(at.0 + ENTRY_SIZE));

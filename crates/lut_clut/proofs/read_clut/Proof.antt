@@ -1,6 +1,6 @@
 -- `lut_clut::read_clut` meets its contract: each way out is a law of `clutOf`.
 -- Assumes nothing.
-use Rattle.lut_clut.proofs.Laws.{clut-laws, clut-few}
+use Rattle.lut_clut.proofs.Laws.{clut-laws, clut-counted}
 use borrow.Author.Needs.{needs}
 use Rattle.lut_clut.proofs.read_clut.Statement.{statement}
 use Rattle.lut_clut.proofs.read_clut.Tie as tie
@@ -24,5 +24,5 @@ read-clut-spec =
     (λ c. search (needs, clut-laws))
     (λ c κs. search needs)
     (λ c. search (needs, clut-laws))
-    (λ c κs. search (needs, clut-few))
+    (λ c κs. search (needs, clut-counted))
     (λ c. search (needs, clut-laws)))
