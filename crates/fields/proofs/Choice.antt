@@ -1,4 +1,4 @@
--- What a choice by a test has, and what two tests together say.
+-- What a choice by a test has, what one check behind another has, and what two tests together say.
 -- Assumes nothing.
 use Prim.Native.Nat.{ℕ}
 use mathlib.Core.Path.{_≡_, refl}
