@@ -8,7 +8,7 @@ use Rattle.icc.specs.Each.{Each}
 use Rattle.fields.specs.Refusals.{refusalNumber, refusalNumbers, isRefusal}
 use Rattle.fields.specs.Some.{some}
 use Rattle.fields.specs.declared.Refusal.{Refusal}
-use Rattle.fields.specs.declared.Refusal.the-variants.{PastProfile, TagTooShort, OtherLut, GridOverflow, GridZero, GridTooLarge, GridDimension, EntrySize, OtherCurve, TooManyEntries, CurveRunsOut, FunctionType, ZeroDivision, TooFewSlots, BadTable, GridOverLimit, BadChad}
+use Rattle.fields.specs.declared.Refusal.the-variants.{PastProfile, TagTooShort, OtherLut, GridOverflow, GridZero, GridTooLarge, GridDimension, EntrySize, OtherCurve, TooManyEntries, CurveRunsOut, FunctionType, ZeroDivision, TooFewSlots, BadTable, GridOverLimit, BadChad, NoColourTable}
 
 -- the refusal of a number
 abbrev pub nameOf : ℕ → Refusal
@@ -29,7 +29,8 @@ nameOf n =
     cond (eqb n 14) TooFewSlots (
     cond (eqb n 15) BadTable (
     cond (eqb n 16) GridOverLimit (
-    BadChad))))))))))))))))
+    cond (eqb n 17) BadChad (
+    NoColourTable)))))))))))))))))
 
 -- each is that of its own number, which is one of the list
 known : (r : Refusal) → (nameOf (refusalNumber r) ≡ r) × (isRefusal (refusalNumber r) ≡ true)
@@ -51,6 +52,7 @@ known TooFewSlots = (refl, refl)
 known BadTable = (refl, refl)
 known GridOverLimit = (refl, refl)
 known BadChad = (refl, refl)
+known NoColourTable = (refl, refl)
 
 pub named : (r : Refusal) → nameOf (refusalNumber r) ≡ r
 named r = known r .0
@@ -65,7 +67,7 @@ listed r = known r .1
 
 pub used : Each (λ n. refusalNumber (nameOf n) ≡ n) refusalNumbers
 unfolding Each
-used = (refl, (refl, (refl, (refl, (refl, (refl, (refl, (refl, (refl, (refl, (refl, (refl, (refl, (refl, (refl, (refl, (refl, tt)))))))))))))))))
+used = (refl, (refl, (refl, (refl, (refl, (refl, (refl, (refl, (refl, (refl, (refl, (refl, (refl, (refl, (refl, (refl, (refl, (refl, tt))))))))))))))))))
 
 pub never-18 : (r : Refusal) → refusalNumber r ≡ 18 → ⊥
 unfolding some

@@ -5,7 +5,7 @@ use mathlib.Core.List.{List, [], _∷_}
 use lib.Dec.{eqb}
 use Rattle.fields.specs.Some.{some}
 use Rattle.fields.specs.declared.Refusal.{Refusal}
-use Rattle.fields.specs.declared.Refusal.the-variants.{PastProfile, TagTooShort, OtherLut, GridOverflow, GridZero, GridTooLarge, GridDimension, EntrySize, OtherCurve, TooManyEntries, CurveRunsOut, FunctionType, ZeroDivision, TooFewSlots, BadTable, GridOverLimit, BadChad}
+use Rattle.fields.specs.declared.Refusal.the-variants.{PastProfile, TagTooShort, OtherLut, GridOverflow, GridZero, GridTooLarge, GridDimension, EntrySize, OtherCurve, TooManyEntries, CurveRunsOut, FunctionType, ZeroDivision, TooFewSlots, BadTable, GridOverLimit, BadChad, NoColourTable}
 
 abbrev pub refusalNumber : Refusal → ℕ
 refusalNumber PastProfile = 1
@@ -25,10 +25,11 @@ refusalNumber TooFewSlots = 14
 refusalNumber BadTable = 15
 refusalNumber GridOverLimit = 16
 refusalNumber BadChad = 17
+refusalNumber NoColourTable = 19
 
 -- all of them. 18 was one, and is not used again
 abbrev pub refusalNumbers : List ℕ
-refusalNumbers = 1 ∷ 2 ∷ 3 ∷ 4 ∷ 5 ∷ 6 ∷ 7 ∷ 8 ∷ 9 ∷ 10 ∷ 11 ∷ 12 ∷ 13 ∷ 14 ∷ 15 ∷ 16 ∷ 17 ∷ []
+refusalNumbers = 1 ∷ 2 ∷ 3 ∷ 4 ∷ 5 ∷ 6 ∷ 7 ∷ 8 ∷ 9 ∷ 10 ∷ 11 ∷ 12 ∷ 13 ∷ 14 ∷ 15 ∷ 16 ∷ 17 ∷ 19 ∷ []
 
 -- n is one of them
 abbrev pub isRefusal : ℕ → Bool
@@ -49,3 +50,6 @@ tooFewSlots = refusalNumber TooFewSlots
 
 abbrev pub tooManyPoints : ℕ
 tooManyPoints = refusalNumber GridOverLimit
+
+abbrev pub noColourTable : ℕ
+noColourTable = refusalNumber NoColourTable

@@ -49,6 +49,7 @@ pub enum Refusal {
     BadTable,
     GridOverLimit,
     BadChad,
+    NoColourTable,
 }
 
 impl Refusal {
@@ -74,6 +75,7 @@ impl Refusal {
             Refusal::BadTable => 15,
             Refusal::GridOverLimit => 16,
             Refusal::BadChad => 17,
+            Refusal::NoColourTable => 19,
         }
     }
 }

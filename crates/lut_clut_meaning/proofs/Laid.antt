@@ -37,7 +37,7 @@ pub record Within (table : Table) : Type 0 where
 -- ---- what is laid out so is accepted
 
 -- no dimension is below 2
-none-flat : (gs : List ℕ) → ((i : ℕ) → i < length gs → 2 ≤ getD gs i 0) → some isFlat gs ≡ false
+pub none-flat : (gs : List ℕ) → ((i : ℕ) → i < length gs → 2 ≤ getD gs i 0) → some isFlat gs ≡ false
 unfolding some
 none-flat [] h = refl
 none-flat (g ∷ gs) h = rw (le-ltb g 2 (h 0 (omega arith)), none-flat gs (λ i l. h (suc i) (omega arith)))

@@ -1,6 +1,6 @@
 -- The meanings case by case, as the code meets them. The loop over a grid: what is left of it, from the number so far, means the whole.
 -- Assumes nothing.
-use Prim.Native.Nat.{ℕ, suc, _+_, _-_, _*_, _^_, _≤_, _<_, min}
+use Prim.Native.Nat.{ℕ, suc, _+_, _-_, _*_, _/_, _^_, _≤_, _<_, min}
 use native.Mathlib.Omega.{arith}
 use native.Mathlib.Numerals.{add-one}
 use native.Mathlib.Nat.{zero-mul, zero-add, mul-le-mul, mul-le-mul-left, sub-zero}
@@ -25,7 +25,7 @@ use Rattle.lut_mft_meaning.specs.declared.MftTable.{MftTable}
 use Rattle.lut_view_meaning.specs.Answer.{Answer, value, absent}
 use Rattle.lut_view_meaning.specs.View.{noNumbers, gridFrom, tableBy, numbersOf, entryFrom, entryOf}
 use Rattle.lut_view_meaning.specs.declared.TableNumbers.{TableNumbers}
-use Rattle.lut_view.specs.Point.{pointAt, Appended}
+use Rattle.lut_view.specs.Point.{pointAt}
 use Rattle.lut_view.specs.declared.Point.{Point}
 
 -- ---- a number with one more digit
@@ -40,14 +40,10 @@ module _ (p g x : ℕ) (l : p < 2 ^ 32) (m : g < 256) where
   pub times-fits : Fits w64 (p * g)
   times-fits = record { fits = omega (arith, scaled) }
 
-  module _ (n : x < 256) where
-    pub digit-fits : Fits w64 (p * g + x)
-    digit-fits = record { fits = omega (arith, scaled) }
+  pub digit-fits : x < 256 → Fits w64 (p * g + x)
+  digit-fits n = record { fits = omega (arith, scaled) }
 
-    pub appended : Appended p g x (p * g + x)
-    appended = record { is = refl; low = omega (arith, scaled) }
-
-pub ruleset append-laws = (times-fits, digit-fits, appended)
+pub ruleset append-fits = (times-fits, digit-fits)
 
 -- ---- the point that an index names
 
@@ -110,10 +106,10 @@ module _ (t : List ℕ) (at step n : ℕ) (m : List ℕ) (p next i : ℕ) (inv :
       unfolding gridFrom
       point-out o = sym (go-out p g (getD m i 0) _ _ o) ∙ (rw (less, drop-cons m i 0 k, ← e) at inv)
 
-      module _ (u : getD m i 0 < g) (q : ℕ) (c : Appended p g (getD m i 0) q) where
+      module _ (u : getD m i 0 < g) (q : ℕ) (c : q ≡ p * g + getD m i 0) where
         pub point-turns : go q (gridFrom t (next + step) step (n - (i + 1))) (drop (i + 1) m) ≡ pointAt (gridFrom t at step n) m
         unfolding gridFrom
-        point-turns = rw (c .is, add-one i) (sym (go-turns p g (getD m i 0) _ _ u) ∙ (rw (less, drop-cons m i 0 k, ← e, add-one i) at inv))
+        point-turns = rw (c, add-one i) (sym (go-turns p g (getD m i 0) _ _ u) ∙ (rw (less, drop-cons m i 0 k, ← e, add-one i) at inv))
 
         pub point-over : 0xFFFFFFFF < q → Point.Nowhere ≡ pointAt (gridFrom t at step n) m
         point-over o = sym (go-over q (gridFrom t (next + step) step (n - (i + 1))) (drop (i + 1) m) o) ∙ point-turns
@@ -142,17 +138,16 @@ next-fits t next step g x e u l s = record { fits = by-place (ltb next (length t
 
 -- ---- one entry by its number
 
-module _ (k s : ℕ) (l : k < 2 ^ 41) (u : s ≤ 2) where
-  room : k * s ≤ 2 ^ 42
-  room =
-      let a : k ≤ 2 ^ 41 = omega arith in
-      omega (arith, mul-le-mul a u)
+-- its number is below the bytes from start on, so that twice the number fits
+module _ (len start s k : ℕ) (o : k < len - start) (u : s ≤ 2) (b : len * 1 < 2 ^ 63) where
+  twice : k * s ≤ k * 2
+  twice = mul-le-mul-left k u
 
   pub before-fits : Fits w64 (k * s)
-  before-fits = record { fits = omega (arith, room) }
+  before-fits = record { fits = omega (arith, twice) }
 
   pub behind-fits : Fits w64 (k * s + s)
-  behind-fits = record { fits = omega (arith, room) }
+  behind-fits = record { fits = omega (arith, twice) }
 
 module _ (t : List ℕ) (start s k : ℕ) where
   pub from-none : s < 1 → absent ≡ entryFrom t start s k
@@ -172,23 +167,26 @@ module _ (t : List ℕ) (start s k : ℕ) where
       pub from-past : length t < start → absent ≡ entryFrom t start s k
       from-past o = past (omega arith)
 
+      pub from-far : start ≤ length t → length t - start ≤ k → absent ≡ entryFrom t start s k
+      from-far f o = past (omega (arith, mul-le-mul-left k m))
+
       module _ (f : start ≤ length t) where
         pub from-short : length t - start < k * s + s → absent ≡ entryFrom t start s k
         from-short o = past (omega arith)
 
         module _ (o : k * s + s ≤ length t - start) (n : ℕ) where
-          inside : start + (k * s + s) ≤ length t
-          inside = omega arith
+          within : ltb (length t) (start + (k * s + s)) ≡ false
+          within = let i : start + (k * s + s) ≤ length t = omega arith in le-ltb _ _ i
 
           pub from-one : s ≡ 1 → n ≡ getD t (start + k * s) 0 → value n ≡ entryFrom t start s k
           unfolding entryFrom
-          from-one z e = simp (le-ltb _ _ m, le-ltb _ _ u, le-ltb _ _ inside, eq-eqb _ _ z, e)
+          from-one z e = simp (le-ltb _ _ m, le-ltb _ _ u, within, eq-eqb _ _ z, e)
 
           pub from-two : (s ≡ 1 → ⊥) → n ≡ u16At t (start + k * s) → value n ≡ entryFrom t start s k
           unfolding entryFrom
-          from-two z e = simp (le-ltb _ _ m, le-ltb _ _ u, le-ltb _ _ inside, ne-eqb _ _ z, e)
+          from-two z e = simp (le-ltb _ _ m, le-ltb _ _ u, within, ne-eqb _ _ z, e)
 
-pub ruleset entry-laws = (before-fits, behind-fits, from-none, from-three, from-past, from-short, from-one, from-two)
+pub ruleset entry-laws = (from-none, from-three, from-past, from-far, from-short, from-one, from-two)
 
 -- ---- the entry of an index
 
@@ -218,9 +216,9 @@ module _ (t : List ℕ) (v : TableNumbers) (m : List ℕ) (channel n : ℕ) (e :
     unfolding ofPoint
     entry-channel o = rw (g, le-ltb _ _ o) at found
 
-    pub entry-read : channel < v .outputs → (k : ℕ) → Appended p (v .outputs) channel k → (a : Answer) → a ≡ entryFrom t (v .start .0) (v .«entry_size») k → a ≡ entryOf t (tableBy t v) m channel
+    pub entry-read : channel < v .outputs → (k : ℕ) → k ≡ p * v .outputs + channel → (a : Answer) → a ≡ entryFrom t (v .start .0) (v .«entry_size») k → a ≡ entryOf t (tableBy t v) m channel
     unfolding ofPoint
-    entry-read o k c a z = (rw (c .is) at z) ∙ (rw (g, lt-ltb _ _ o) at found)
+    entry-read o k c a z = (rw c at z) ∙ (rw (g, lt-ltb _ _ o) at found)
 
 pub ruleset index-laws = (entry-nowhere, entry-channel, entry-read)
 

@@ -10,11 +10,11 @@ use lut_view_meaning::NO_NUMBERS;
 pub use lut_view_meaning::TableNumbers;
 pub use lut_view_meaning::TableView;
 ghost use mathlib.Core.Path.{_≡_};
-ghost use Prim.Native.Nat.{_-_, _^_, _<_};
+ghost use Prim.Native.Nat.{_+_, _*_, _-_};
 ghost use Rattle.lut_meaning.specs.Answer.{stateFrom};
 ghost use Rattle.lut_view_meaning.specs.Answer.{inNumbers};
 ghost use Rattle.lut_view_meaning.specs.View.{clutHead, numbersOf, gridFrom, tableBy, entryFrom, entryOf};
-ghost use Rattle.lut_view.specs.Point.{pointAt, Appended};
+ghost use Rattle.lut_view.specs.Point.{pointAt};
 
 // Where the one grid byte of `mft1` and `mft2` stands, and the step from it to the next.
 const MFT_GRID: u64 = 10;
@@ -76,7 +76,7 @@ pub fn numbers_of(answer: LutAnswer) -> TableNumbers
 
 // A number with one more digit, to a base of its own.
 fn append(number: u32, base: u8, digit: u8) -> u64
-    ensures { λ r. ⌜ Appended number base digit r ⌝ }
+    ensures { λ r. ⌜ r ≡ number * base + digit ⌝ }
 {
     (number as u64) * (base as u64) + (digit as u64)
 }
@@ -110,11 +110,12 @@ fn point_at(tag: &[u8], at: InTag, step: u8, n: usize, index: &[u8]) -> Point
     Point::At(point)
 }
 
-// Entry `number` of those from `start` on, if it has one byte or two and lies in the tag.
-fn read_entry(tag: &[u8], start: InTag, size: u8, number: u64) -> EntryAnswer
-    requires { ⌜ number < 2 ^ 41 ⌝ }
-    ensures { λ r. ⌜ inNumbers r ≡ entryFrom (now (tag .entry)) (start .0) size number ⌝ }
+// Entry `number` of those of the table that the numbers tell of, if an entry has one byte or two and this one lies in the tag.
+pub fn entry_by_number(tag: &[u8], numbers: TableNumbers, number: u64) -> EntryAnswer
+    ensures { λ r. ⌜ inNumbers r ≡ entryFrom (now (tag .entry)) (numbers .start .0) (numbers .«entry_size») number ⌝ }
 {
+    let start = numbers.start;
+    let size = numbers.entry_size;
     if size < 1 {
         return EntryAnswer::Absent;
     }
@@ -125,8 +126,12 @@ fn read_entry(tag: &[u8], start: InTag, size: u8, number: u64) -> EntryAnswer
     if len < start.0 {
         return EntryAnswer::Absent;
     }
+    let room = len - start.0;
+    if room <= number {
+        return EntryAnswer::Absent;
+    }
     let before = number * (size as u64);
-    if len - start.0 < before + (size as u64) {
+    if room < before + (size as u64) {
         return EntryAnswer::Absent;
     }
     let at = InTag(start.0 + before);
@@ -140,7 +145,6 @@ fn read_entry(tag: &[u8], start: InTag, size: u8, number: u64) -> EntryAnswer
 pub fn entry_at(tag: &[u8], numbers: TableNumbers, index: &[u8], channel: u8) -> EntryAnswer
     ensures { λ r. ⌜ inNumbers r ≡ entryOf (now (tag .entry)) (tableBy (now (tag .entry)) numbers) (now (index .entry)) channel ⌝ }
 {
-    let start = numbers.start;
     let grid_at = numbers.grid_at;
     let n = lut_clut::dimensions(numbers.inputs);
     let found = point_at(tag, grid_at, numbers.grid_step, n, index);
@@ -151,7 +155,7 @@ pub fn entry_at(tag: &[u8], numbers: TableNumbers, index: &[u8], channel: u8) ->
         return EntryAnswer::Absent;
     }
     let number = append(point, numbers.outputs, channel);
-    read_entry(tag, start, numbers.entry_size, number)
+    entry_by_number(tag, numbers, number)
 }
 
 // The view of a tag and of the numbers of its answer.

@@ -1,5 +1,6 @@
 pub mod Unique
 pub mod Any
+pub mod Solid
 pub mod Shows
 pub mod Cases
 pub mod Conforms

@@ -1,8 +1,9 @@
--- No small reader refuses with 14: that is the number of slots that are too few, and they have none.
+-- Which numbers a small reader refuses with: what holds of 1, 2 and 17 holds of each. So none is 14, that of slots that are too few: they have
+-- none.
 -- Assumes nothing.
 use Prim.Native.Nat.{ℕ, _+_, _-_, _/_}
 use native.Mathlib.Omega.{arith}
-use mathlib.Core.Path.{_≡_}
+use mathlib.Core.Path.{_≡_, refl, subst}
 use mathlib.Core.List.{List}
 use lib.Dec.{ltb, eqb}
 use lib.ListN.{length}
@@ -20,25 +21,6 @@ use Rattle.small_meaning.specs.Small.{chadMatrixOf, chadOf, windowOf, tr
 use Rattle.small_meaning.specs.declared.Found.{Found}
 use Rattle.small_meaning.proofs.Order.{order-each}
 
-abbrev pub Not14 : Answer → Type 0
-Not14 a = a ≡ refused 14 → ⊥
-
-valued : {ws : List ℕ} → Not14 (value ws)
-valued h = never cc
-
-none : Not14 absent
-none h = never cc
-
-standard : Not14 default
-standard h = never cc
-
-other : {n : ℕ} → (n ≡ 14 → ⊥) → Not14 (refused n)
-other f h = f cc
-
--- the order that the readers share
-ordered : (f : Found) {short past this : Answer} → Not14 short → Not14 past → Not14 this → Not14 (answerTo f short past this)
-ordered f a b c = order-each Not14 f a (other (λ e. omega arith)) b c
-
 -- `chad`: what holds of every answer that it can give holds of the one that it gives
 pub chad-each : (P : Answer → Type 0) → P (refused 1) → P (refused 17) → P absent → ((t : List ℕ) → P (value (nineNumbers t))) → (p : List ℕ) (entry size : ℕ) → P (chadOf p entry size)
 unfolding chadOf chadMatrixOf
@@ -51,14 +33,36 @@ chad-each P past bad none is p entry size =
     (λ _. each P (eqb (length (tagAt p entry size)) 44) _ _ (λ _. is _) (λ _. bad)) (λ _. bad))
     (λ _. none))))
 
-pub small-not-14 : (s : Small) (p : List ℕ) (entry size : ℕ) → Not14 (smallOf s p entry size)
-unfolding windowOf tripleOf
-small-not-14 chad p entry size = chad-each Not14 (other (λ e. omega arith)) (other (λ e. omega arith)) none (λ t. valued) p entry size
-small-not-14 sig p entry size = ordered _ (other (λ e. omega arith)) none valued
-small-not-14 date p entry size = ordered _ none none valued
-small-not-14 meas p entry size =
-    ordered _ none none (each Not14 (ltb (length p) (entry + 36)) _ _ (λ _. other (λ e. omega arith)) (λ _. valued))
-small-not-14 view p entry size = ordered _ none none valued
-small-not-14 xyz p entry size =
-    ordered _ standard standard (each Not14 (ltb (length (tagAt p entry size)) 20) _ _ (λ _. other (λ e. omega arith)) (λ _. valued))
-small-not-14 cicp p entry size = ordered _ none none valued
+module _ (Q : ℕ → Type 0) (one : Q 1) (two : Q 2) (seventeen : Q 17) where
+  abbrev Only : Answer → Type 0
+  Only a = (n : ℕ) → a ≡ refused n → Q n
+
+  only : (m : ℕ) → Q m → Only (refused m)
+  only m q n e = let same : m ≡ n = cc in subst Q same q
+
+  valued : (ws : List ℕ) → Only (value ws)
+  valued ws n e = never cc
+
+  none : Only absent
+  none n e = never cc
+
+  standard : Only default
+  standard n e = never cc
+
+  -- the order that the readers share
+  ordered : (f : Found) {short other this : Answer} → Only short → Only other → Only this → Only (answerTo f short other this)
+  ordered f a b c = order-each Only f a (only 1 one) b c
+
+  pub small-refuses : (s : Small) (p : List ℕ) (entry size : ℕ) → Only (smallOf s p entry size)
+  unfolding windowOf tripleOf
+  small-refuses chad p entry size = chad-each Only (only 1 one) (only 17 seventeen) none (λ t. valued _) p entry size
+  small-refuses sig p entry size = ordered _ (only 2 two) none (valued _)
+  small-refuses date p entry size = ordered _ none none (valued _)
+  small-refuses meas p entry size = ordered _ none none (each Only (ltb (length p) (entry + 36)) _ _ (λ _. only 1 one) (λ _. valued _))
+  small-refuses view p entry size = ordered _ none none (valued _)
+  small-refuses xyz p entry size =
+      ordered _ standard standard (each Only (ltb (length (tagAt p entry size)) 20) _ _ (λ _. only 2 two) (λ _. valued _))
+  small-refuses cicp p entry size = ordered _ none none (valued _)
+
+pub small-not-14 : (s : Small) (p : List ℕ) (entry size : ℕ) → smallOf s p entry size ≡ refused 14 → ⊥
+small-not-14 s p entry size h = small-refuses (λ n. n ≡ 14 → ⊥) (λ e. omega arith) (λ e. omega arith) (λ e. omega arith) s p entry size 14 h refl

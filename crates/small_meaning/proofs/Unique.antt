@@ -1,22 +1,19 @@
 -- The results of a reader and their numbers stand for each other. So one call has one answer: a result is determined by its numbers, and
--- those by the meaning. A refusal has the number of one, and what the meaning answers is the numbers of a result.
+-- those by the meaning. And what the meaning answers is the numbers of a result.
 -- Assumes nothing.
 use Prim.Native.Nat.{ℕ, _+_}
-use mathlib.Core.Path.{_≡_, refl, sym, ap, subst, _∙_}
-use mathlib.Core.Bool.{true}
+use mathlib.Core.Path.{_≡_, refl, ap}
 use mathlib.Core.List.{List}
 use lib.Dec.{ltb}
 use lib.ListN.{length}
 use Rattle.fields.specs.Bytes.{bytesAt, wordsAt}
 use Rattle.fields.specs.Place.{tagAt}
-use Rattle.fields.specs.Refusals.{refusalNumber, isRefusal}
-use Rattle.fields.specs.declared.Refusal.{Refusal}
 use Rattle.fields.proofs.Choice.{each}
-use Rattle.fields.proofs.Numbers.{nameOf, named, listed}
+use Rattle.fields.proofs.Numbers.{named}
 use Rattle.fields.proofs.Once.{once}
-use Rattle.small_meaning.specs.Answer.{Answer, refused}
+use Rattle.small_meaning.specs.Answer.{Answer}
 use Rattle.small_meaning.specs.Layout.{nineNumbers, signatureIn, dateBytes, measurement, conditions, firstXyz, codePoints}
-use Rattle.small_meaning.specs.Readers.{Small, chad, sig, date, meas, view, xyz, cicp, SmallResult, smallNumbers, smallOf, smallRefusal, smallResult}
+use Rattle.small_meaning.specs.Readers.{Small, chad, sig, date, meas, view, xyz, cicp, SmallResult, smallNumbers, smallOf, smallResult}
 use Rattle.small_meaning.specs.Small.{windowOf, tripleOf}
 use Rattle.small_meaning.specs.declared.ChadAnswer.{ChadAnswer}
 use Rattle.small_meaning.specs.declared.CicpAnswer.{CicpAnswer}
@@ -55,23 +52,6 @@ back cicp (CicpAnswer.Refused why) = ap CicpAnswer.Refused (named why)
 
 pub small-unique : (s : Small) (a : Answer) (x y : SmallResult s) → smallNumbers s x ≡ a → smallNumbers s y ≡ a → x ≡ y
 small-unique s = once (smallNumbers s) (smallResult s) (back s)
-
--- ---- the number of a refusal
-
-refusal-numbers : (s : Small) (why : Refusal) → smallNumbers s (smallRefusal s why) ≡ refused (refusalNumber why)
-refusal-numbers chad why = refl
-refusal-numbers sig why = refl
-refusal-numbers date why = refl
-refusal-numbers meas why = refl
-refusal-numbers view why = refl
-refusal-numbers xyz why = refl
-refusal-numbers cicp why = refl
-
-pub small-numbered : (s : Small) (x : SmallResult s) (n : ℕ) → smallNumbers s x ≡ refused n → isRefusal n ≡ true
-small-numbered s x n e =
-    let named-so : refused (refusalNumber (nameOf n)) ≡ refused n = sym (refusal-numbers s (nameOf n)) ∙ ap (smallNumbers s) (ap (smallResult s) (sym e) ∙ back s x) ∙ e in
-    let same : refusalNumber (nameOf n) ≡ n = cc in
-    subst (λ (m : ℕ). isRefusal m ≡ true) same (listed (nameOf n))
 
 -- ---- from a meaning to its result and back
 

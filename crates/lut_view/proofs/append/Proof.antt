@@ -1,7 +1,7 @@
 -- `lut_view::append` meets its contract: a number of 32 bits times a byte fits 64.
 -- Assumes nothing.
 use borrow.Author.Needs.{needs}
-use Rattle.lut_view.proofs.Laws.{append-laws}
+use Rattle.lut_view.proofs.Laws.{append-fits}
 use Rattle.lut_view.proofs.append.Statement.{statement}
 use Rattle.lut_view.proofs.append.Tie as tie
 
@@ -9,6 +9,6 @@ pub append-spec : {M : Type 1} → statement M
 append-spec =
     tie.close
     (tie.spec
-    (λ c. search (needs, append-laws))
-    (λ c. search (needs, append-laws))
-    (λ c. search (needs, append-laws)))
+    (λ c. search (needs, append-fits))
+    (λ c. search (needs, append-fits))
+    (λ c. search needs))
