@@ -1,0 +1,17 @@
+pub mod Blend
+pub mod Cells
+pub mod Grid
+pub mod Lists
+pub mod Bounds
+pub mod Behind
+pub mod Odd
+pub mod There
+pub mod Corners
+pub mod Points
+pub mod Room
+pub mod Answered
+pub mod Grow
+pub mod Row
+pub mod Accepted
+pub mod Unique
+pub mod Cases
