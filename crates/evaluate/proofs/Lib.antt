@@ -1,0 +1,5 @@
+pub mod Channels
+pub mod Axed
+pub mod Pixels
+pub mod Judging
+pub mod Rowing
