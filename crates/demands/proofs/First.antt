@@ -30,6 +30,7 @@ use Rattle.small_meaning.proofs.Inside.{chad-inside, sig-inside, view-inside, x
 use Rattle.demands.specs.Readers.{lut, trc, string, small, Call, meaning, slotsAfter, value, smallOutcome, Library, ends, Promised, answered}
 use Rattle.demands.specs.Demands.{tag, curveTag, ElementInside, curveAt, recordIn, CurveInside, NoMatrix, MatrixThere, NoGrid, GridThere, AbmInside, MftInside, LocalizedInside, TextInside, FieldsInside, SameFields, onProfile, Demand1}
 use Rattle.demands.proofs.Ends.{Spares, numbered, ends-so, leaves-spared}
+use Rattle.demands.proofs.Evaluations.{evaluation-ends, refusal-leaves-words, accepted-evaluates}
 
 -- ---- a lone curve, by the words of its record
 
@@ -152,7 +153,7 @@ module _ (l : Library) (p : Promised l) where
   pub demand1 : Demand1 l
   demand1 =
       record {
-        numbered = numbered l;
+        numbered = numbered l p;
         refusal-leaves-slots = λ r c n e. leaves-spared l p r c (subst Spares (sym e) tt);
         absence-leaves-slots = λ r c e. leaves-spared l p r c (subst Spares (sym e) tt);
         abm-inside = abm-inside;
@@ -161,4 +162,7 @@ module _ (l : Library) (p : Promised l) where
         text-inside = text-inside;
         fields-inside = fields-inside;
         fields-alone = fields-alone;
+        evaluation-ends = evaluation-ends l p;
+        refusal-leaves-words = refusal-leaves-words l p;
+        accepted-evaluates = accepted-evaluates l p;
       }

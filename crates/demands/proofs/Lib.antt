@@ -1,4 +1,6 @@
+pub mod Refuses
 pub mod Ends
+pub mod Evaluations
 pub mod First
 pub mod Second
 pub mod Third

@@ -34,6 +34,7 @@ use Rattle.text_meaning.proofs.Conforms as Text
 use Rattle.text_meaning.proofs.Unique.{unique as text-unique}
 use Rattle.demands.specs.Readers.{Reader, lut, trc, string, small, Call, Result, Numbers, numbers, meaning, Library, Promised, answered}
 use Rattle.demands.specs.Demands.{tag, element, ElementInside, reader, shown, Shows, Demand2}
+use Rattle.demands.proofs.Evaluations.{evaluated-once, coloured, calls, row-of-one}
 
 -- ---- one call, one answer: a result is determined by its numbers
 
@@ -150,4 +151,8 @@ module _ (l : Library) (p : Promised l) where
         wide-in-order = λ walk c reserved reserved2 n m x rest low long z fits e h. shows-colours c (mft (fieldsTold16 n m x)) _ _ _ (wide-colours walk (c .entries) (c .points) (c .profile) (c .entry) (c .size) (length (c .slots)) low long reserved reserved2 n m x rest z fits e (sym (lut-state walk c) ∙ h));
         narrow-in-order = λ walk c reserved reserved2 x rest low long z e h. shows-colours c (mft (fieldsTold8 x)) _ _ _ (narrow-colours walk (c .entries) (c .points) (c .profile) (c .entry) (c .size) (length (c .slots)) low long reserved reserved2 x rest z e (sym (lut-state walk c) ∙ h));
         not-shown = λ t n index channel h. p .reads-so t n index channel ∙ invalid-absent t (tableBy t n) index channel h;
+        evaluated-once = evaluated-once l p;
+        pixel-coloured = coloured l p;
+        row-is-calls = calls l p;
+        row-of-one = row-of-one l p;
       }

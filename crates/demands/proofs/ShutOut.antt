@@ -1,12 +1,12 @@
--- The wrong readers break a demand, each by one small call: an empty curve, a table of two entries, an `XYZ ` tag, and the `mAB ` tag of the
--- worked cases.
+-- The wrong readers and evaluators break a demand, each by one small call: an empty curve, a table of two entries, an `XYZ ` tag, the `mAB ` tag
+-- of the worked cases, a cube of colours, and a colour table of two points.
 -- Assumes nothing.
 use Prim.Native.Nat.{ℕ, _+_}
 use native.Mathlib.Omega.{arith}
 use mathlib.Core.Path.{_≡_, refl, ap, _∙_}
 use mathlib.Core.List.{List, [], _∷_}
 use mathlib.Core.Logic.{inl}
-use lib.ListN.{getD, drop, replicate}
+use lib.ListN.{length, getD, drop, replicate}
 use Rattle.icc.specs.Each.{Each}
 use Rattle.fields.proofs.Never.{never}
 use Rattle.icc.specs.Curves.{sampled, parametric, curveElement, curveType, parametricCurveType, type0, encoded, parameters, Defined}
@@ -15,6 +15,7 @@ use Rattle.icc.specs.Numbers.{each16, each32}
 use Rattle.icc.specs.Small.{eachXyz, xyzType}
 use Rattle.fields.specs.House.{houseEntries}
 use Rattle.fields.specs.Refusals.{tooFewSlots}
+use Rattle.fields.specs.Some.{some}
 use Rattle.fields.specs.Tag.{signatureOf}
 use Rattle.curve_meaning.specs.Cases.{none, two}
 use Rattle.curve_meaning.specs.Shape.{Shape, empty, table, para, recordWords, wordsOf}
@@ -30,11 +31,18 @@ use Rattle.lut_meaning.specs.declared.LutAnswer.{LutAnswer}
 use Rattle.lut_run_meaning.proofs.Conforms.{aligned-next}
 use Rattle.lut_meaning.proofs.Conforms.{written-records}
 use Rattle.small_meaning.specs.Standard.{SomeXyz}
-use Rattle.demands.specs.Readers.{lut, Call, Library, Promised, answered}
+use Rattle.lut_clut_meaning.specs.Cases.{cube}
+use Rattle.lut_clut_meaning.specs.Table.{product, pointOf}
+use Rattle.lut_view_meaning.specs.View.{gridFrom, numbersOf}
+use Rattle.evaluate_meaning.specs.Answer.{value, refused}
+use Rattle.evaluate_meaning.specs.Calls.{afterCalls}
+use Rattle.evaluate_meaning.specs.Colour.{cellOf, restOf, between, colourOf, sampleAt, cornerOf, coloursFrom}
+use Rattle.evaluate_meaning.specs.Evaluate.{oddNumbers, outside, noTable, pixelAnswer, pixelAfter, rowAnswer}
+use Rattle.demands.specs.Readers.{lut, Call, pixel, row, Pixels, pixels, evaluation, Library, Promised, answered}
 use Rattle.demands.specs.Demands.{inFront, curveAt, Demand1, Demand2}
-use Rattle.demands.specs.Cases.{Holds, lone, withSlotsFor}
-use Rattle.demands.specs.Wrong.{refusesAll, alwaysDefault, alwaysIdentity, unwritten, copied, madeUp, tooEarly, zeroed, copies, oneCurve, ShutOut}
-use Rattle.demands.proofs.Cases.{book-walk}
+use Rattle.demands.specs.Cases.{Holds, call, lone, withTable, withSlotsFor}
+use Rattle.demands.specs.Wrong.{refusesAll, alwaysDefault, alwaysIdentity, unwritten, copied, madeUp, tooEarly, zeroed, copies, oneCurve, evaluatesNothing, unfilled, repeated, filledEarly, ShutOut}
+use Rattle.demands.proofs.Cases.{book-walk, cube-numbers}
 use Rattle.demands.proofs.Ends.{ends-so}
 
 refuses-all : (l : Library) → Demand2 (refusesAll l) → ⊥
@@ -195,6 +203,57 @@ records-zeroed l p d =
     let e : 0 ≡ curveAt Book c 0 .at + 12 = ap (λ (ws : List ℕ). getD ws 1 0) (first .record-is) ∙ start-told _ (curveAt Book c 0 .shape) in
     omega (arith, e)
 
+-- ---- evaluators
+
+-- the answer of a table that is accepted would be 19
+evaluates-nothing : (l : Library) → Promised l → Demand1 (evaluatesNothing l) → ⊥
+evaluates-nothing l p d =
+    let c : Call = call (withTable 3 3 cube) 76 [] in
+    let same = ap (λ (a : Lut·Answer). numbersOf (a .state)) (p .answers (lut Crate) c) ∙ cube-numbers in
+    let e = d .accepted-evaluates Crate c pixel (0 ∷ 0 ∷ 0 ∷ []) (7 ∷ 7 ∷ 7 ∷ []) (rw same (omega arith)) (rw same (omega arith)) (rw same (omega arith)) (rw same refl) (rw same (omega arith)) in
+    never cc
+
+-- two points with so many outputs, whose entries are 0 and 65535 in turn, and words 7
+abbrev line : ℕ → List ℕ → Pixels
+line outputs xs =
+    pixels (2 ∷ 0 ∷ 255 ∷ 0 ∷ 255 ∷ []) record { start = record { 0 = 1 }; «entry_size» = 1; inputs = 1; outputs = outputs; «grid_at» = record { 0 = 0 }; «grid_step» = 0 } xs (replicate (length xs) 7)
+
+record Line : Type 0 where
+  served : evaluation pixel (line 1 (65535 ∷ [])) ≡ value 1
+  row-served : evaluation row (line 1 (0 ∷ 65535 ∷ [])) ≡ value 2
+  short : evaluation pixel (line 2 (65535 ∷ [])) ≡ refused tooFewSlots
+
+on-line : Line
+unfolding pixelAnswer rowAnswer noTable oddNumbers outside gridFrom some product
+on-line = record { served = refl; row-served = refl; short = refl }
+
+-- the word of the second point would be a 7 that was lent
+words-unfilled : (l : Library) → Demand2 (unfilled l) → ⊥
+unfolding gridFrom coloursFrom colourOf cornerOf sampleAt cellOf restOf between pointOf product
+words-unfilled l d =
+    let c : Pixels = line 1 (65535 ∷ []) in
+    let answer = d .promised .evaluates-so pixel c .answer ∙ on-line .served in
+    let e : _≡_ {A = ℕ} 7 65535 = ap (λ (ws : List ℕ). getD ws 0 0) (d .pixel-coloured c 1 answer) in
+    omega (arith, e)
+
+-- the second pixel would be the first
+first-repeated : (l : Library) → Demand2 (repeated l) → ⊥
+unfolding copies afterCalls pixelAfter pixelAnswer noTable oddNumbers outside some gridFrom coloursFrom colourOf cornerOf sampleAt cellOf restOf between pointOf product
+first-repeated l d =
+    let c : Pixels = line 1 (0 ∷ 65535 ∷ []) in
+    let answer = d .promised .evaluates-so row c .answer ∙ on-line .row-served in
+    let e : _≡_ {A = ℕ} 0 65535 = ap (λ (ws : List ℕ). getD ws 1 0) (d .row-is-calls c 2 answer .0) in
+    omega (arith, e)
+
+-- with one word the call is refused, and that word would be the first result
+filled-too-early : (l : Library) → Promised l → Demand1 (filledEarly l) → ⊥
+unfolding gridFrom coloursFrom colourOf cornerOf sampleAt cellOf restOf between pointOf product
+filled-too-early l p d =
+    let c : Pixels = line 2 (65535 ∷ []) in
+    let answer = p .evaluates-so pixel c .answer ∙ on-line .short in
+    let e : _≡_ {A = ℕ} 0 7 = ap (λ (ws : List ℕ). getD ws 0 0) (d .refusal-leaves-words pixel c tooFewSlots answer) in
+    omega (arith, e)
+
 pub shut-out : (l : Library) → ShutOut l
 shut-out l =
     record {
@@ -206,4 +265,8 @@ shut-out l =
       count-made-up = count-made-up l;
       written-too-early = written-too-early l;
       records-zeroed = records-zeroed l;
+      evaluates-nothing = evaluates-nothing l;
+      words-unfilled = words-unfilled l;
+      first-repeated = first-repeated l;
+      filled-too-early = filled-too-early l;
     }

@@ -36,6 +36,7 @@ use Rattle.text_meaning.proofs.Taken.{Taken, mluc-room, accepted}
 use Rattle.demands.specs.Readers.{Reader, lut, trc, string, small, Call, meaning, slotsAfter, Outcome, value, default, absent, refused, outcome, lutOutcome, curveOutcome, smallOutcome, textOutcome, Library, ends, Promised}
 use Rattle.demands.specs.Demands.{tag, withBytes, withLimits, withSlots, Same, ByBytes, ByLimits, BySlots, wordsAsked, Demand3, withAll}
 use Rattle.demands.proofs.Ends.{Spares, slots-spared, ends-so}
+use Rattle.demands.proofs.Evaluations.{tag-bytes, more-words, words-short, words-last, results-stay}
 use Rattle.demands.proofs.Second.{unique}
 
 -- ---- the meanings: what is said stays, or is of the kind that may change
@@ -286,4 +287,9 @@ module _ (l : Library) (p : Promised l) where
         all = all;
         value-stays = λ r c q entries points x h k e. stays r c q entries points x h k (λ f. never cc) (λ n f. never cc);
         default-stays = λ r c q entries points x h k e. stays r c q entries points x h k (λ f. never cc) (λ n f. never cc);
+        tag-bytes = tag-bytes l p;
+        more-words = more-words l p;
+        words-short = words-short l p;
+        words-last = words-last l p;
+        results-stay = results-stay l p;
       }

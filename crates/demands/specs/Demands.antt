@@ -1,6 +1,6 @@
--- What a library of these readers owes: three records, a field a sentence. proofs/ shows all three of every library that keeps the
+-- What a library of these readers and evaluators owes: three records, a field a sentence. proofs/ shows all three of every library that keeps the
 -- contracts (`Promised`), and breaks them with wrong ones.
-use Prim.Native.Nat.{ℕ, _+_, _*_, _/_, _^_, _≤_, _<_}
+use Prim.Native.Nat.{ℕ, _+_, _*_, _/_, _%_, _^_, _≤_, _<_}
 use mathlib.Core.Path.{_≡_}
 use mathlib.Core.Bool.{Bool, true, false, cond, _&&_}
 use mathlib.Core.List.{List, [], _∷_, _++_}
@@ -17,7 +17,7 @@ use Rattle.icc.specs.Text.{Ascii, terminated, textType, Description, IsDescript
 use Rattle.fields.specs.Bytes.{u16At, u32At, wordsAt}
 use Rattle.fields.specs.House.{tagSize}
 use Rattle.fields.specs.Place.{tagAt, countedTag}
-use Rattle.fields.specs.Refusals.{isRefusal, pastProfile, tooManyEntries, curveRunsOut, tooFewSlots, tooManyPoints}
+use Rattle.fields.specs.Refusals.{isRefusal, pastProfile, tooManyEntries, curveRunsOut, tooFewSlots, tooManyPoints, noColourTable}
 use Rattle.fields.specs.Tag.{signatureOf}
 use Rattle.fields.specs.declared.Kind.the-variants.{Mab, Mba, Mft1, Mft2}
 use Rattle.lut_clut_meaning.specs.Table.{Table, inGrid, entryNumber}
@@ -46,8 +46,14 @@ use Rattle.lut_view_meaning.specs.Answer.{Answer, inNumbers as View·inNumbers}
 use Rattle.lut_view_meaning.specs.Standard.{ShowsColours, ShowsClut}
 use Rattle.lut_view_meaning.specs.View.{numbersOf, tableBy, storedAt}
 use Rattle.lut_view_meaning.specs.declared.TableNumbers.{TableNumbers}
+use Rattle.evaluate_meaning.specs.Answer.{Answer as Colour·Answer, inNumbers as Colour·inNumbers}
+use Rattle.evaluate_meaning.specs.Calls.{afterCalls, AllServed}
+use Rattle.evaluate_meaning.specs.Colour.{colour}
+use Rattle.evaluate_meaning.specs.Evaluate.{pixelsOf}
+use Rattle.evaluate_meaning.specs.declared.Evaluation.{Evaluation}
 use Rattle.demands.specs.Readers.{Reader, lut, trc, string, small, Call, Result, numbers, meaning, Outcome, value, default, absent}
-use Rattle.demands.specs.Readers.{refused, Library, ends, Promised, answered}
+use Rattle.demands.specs.Readers.{refused, Evaluator, pixel, row, Pixels, pixels, resultsAsked, evaluation}
+use Rattle.demands.specs.Readers.{Library, ends, evaluated, Promised, answered}
 
 -- the bytes of the tag in lookup tables and text, where a size of 0 counts as the shortest tag's, and that they lie in the profile
 abbrev pub tag : Call → List ℕ
@@ -204,11 +210,16 @@ abbrev pub onProfile : List ℕ → Call → Call
 onProfile p c =
     record { profile = p; entry = c .entry; size = c .size; entries = c .entries; points = c .points; slots = c .slots }
 
+-- as many coordinates as a pixel has, or as whole pixels have
+abbrev pub WholePixels : Evaluator → TableNumbers → List ℕ → Type 0
+WholePixels pixel n xs = length xs ≡ n .inputs
+WholePixels row n xs = length xs % n .inputs ≡ 0
+
 -- Every call is answered, and inside. That each call ends with one of the outcomes of `Outcome`, traps nowhere, and stays inside its
 -- slices, is each function's own proof, in proofs/F/Proof.antt of its crate
 pub record Demand1 (l : Library) : Type 0 where
-  -- a refusal has one of the numbers of `refusalNumbers`, 1 to 17
-  pub numbered : (r : Reader) (c : Call) (n : ℕ) → ends l r c ≡ refused n → isRefusal n ≡ true
+  -- a reader's refusal has one of the numbers of `refusalNumbers`, 1 to 17
+  pub numbered : (r : Reader) (c : Call) (n : ℕ) → ends l r c ≡ refused n → (isRefusal n ≡ true) × (n ≤ 17)
   -- a refusal leaves lent slots untouched
   pub refusal-leaves-slots : (r : Reader) (c : Call) (n : ℕ) → ends l r c ≡ refused n → l .leaves r c ≡ c .slots
   -- and so does an absence
@@ -236,6 +247,26 @@ pub record Demand1 (l : Library) : Type 0 where
       → length (c .profile) ≤ length p
       → SameFields s c p
       → answered l (small s) (onProfile p c) ≡ answered l (small s) c
+  -- an evaluation ends with the results asked for, with 19 or with 14
+  pub evaluation-ends : (e : Evaluator) (c : Pixels)
+      → (evaluated l e c ≡ Colour·Answer.value (resultsAsked e c))
+      ⊎ (evaluated l e c ≡ Colour·Answer.refused noColourTable)
+      ⊎ (evaluated l e c ≡ Colour·Answer.refused tooFewSlots)
+  -- either refusal leaves the lent buffer untouched
+  pub refusal-leaves-words : (e : Evaluator) (c : Pixels) (n : ℕ)
+      → evaluated l e c ≡ Colour·Answer.refused n
+      → l .fills e c ≡ c .words
+  -- an accepted lookup table with a colour table of 1 to 4 inputs gives the results asked for where there is room for them, so never 19. An
+  -- answer without a colour table has entries of no bytes
+  pub accepted-evaluates : (walk : Walk) (c : Call) (e : Evaluator) (xs words : List ℕ)
+      → let n : TableNumbers = numbersOf (answered l (lut walk) c .state) in
+      let asked : Pixels = pixels (tag c) n xs words in
+      1 ≤ n .«entry_size»
+      → 1 ≤ n .inputs
+      → n .inputs ≤ 4
+      → WholePixels e n xs
+      → resultsAsked e asked ≤ length words
+      → evaluated l e asked ≡ Colour·Answer.value (resultsAsked e asked)
 
 -- ---- demand 2, its proved half
 
@@ -456,6 +487,22 @@ pub record Demand2 (l : Library) : Type 0 where
   pub not-shown : (t : List ℕ) (n : TableNumbers) (index : List ℕ) (channel : ℕ)
       → inGrid (tableBy t n .grid) index && ltb channel (n .outputs) ≡ false
       → View·inNumbers (l .reads t n index channel) ≡ Answer.absent
+  -- one evaluation, one answer
+  pub evaluated-once : (e : Evaluator) (c : Pixels) (x : Evaluation) → Colour·inNumbers x ≡ evaluation e c → x ≡ l .evaluates e c
+  -- the results of a pixel are its colour, in front in the lent buffer
+  pub pixel-coloured : (c : Pixels) (k : ℕ)
+      → evaluated l pixel c ≡ Colour·Answer.value k
+      → l .fills pixel c ≡ inFront (colour (c .tag) (tableBy (c .tag) (c .table)) (c .coordinates)) (c .words)
+  -- a row is the calls of its pixels one after the other, each answered by its results
+  pub row-is-calls : (c : Pixels) (k : ℕ)
+      → evaluated l row c ≡ Colour·Answer.value k
+      → let count : ℕ = pixelsOf (c .table) (c .coordinates) in
+      (l .fills row c ≡ afterCalls (c .tag) (c .table) (c .coordinates) (c .words) count)
+      × AllServed (c .tag) (c .table) (c .coordinates) (length (c .words)) count
+  -- and one of a single pixel is that call
+  pub row-of-one : (c : Pixels)
+      → length (c .coordinates) ≡ c .table .inputs
+      → (l .evaluates row c ≡ l .evaluates pixel c) × (l .fills row c ≡ l .fills pixel c)
 
 -- ---- demand 3
 
@@ -518,6 +565,18 @@ wordsAsked (trc walk) c = 0
 wordsAsked string c = recordsAsked (tag c) * textWords
 wordsAsked (small s) c = 0
 
+-- an evaluation with bytes behind its tag, with words behind its buffer
+abbrev pub behindTag : List ℕ → Pixels → Pixels
+behindTag q c = pixels (c .tag ++ q) (c .table) (c .coordinates) (c .words)
+
+abbrev pub withWords : List ℕ → Pixels → Pixels
+withWords x c = pixels (c .tag) (c .table) (c .coordinates) (c .words ++ x)
+
+-- the evaluation d is answered as c, and every result is the same; words x that it was lent besides stay
+pub record SameColours (l : Library) (e : Evaluator) (c d : Pixels) (x : List ℕ) : Type 0 where
+  pub result : l .evaluates e d ≡ l .evaluates e c
+  pub words : l .fills e d ≡ l .fills e c ++ x
+
 -- Giving more never spoils a good answer
 pub record Demand3 (l : Library) : Type 0 where
   -- bytes appended behind the profile, all else equal: but for those outcomes every field, range and written record stays
@@ -554,3 +613,24 @@ pub record Demand3 (l : Library) : Type 0 where
       → c .points ≤ points
       → ends l r c ≡ default
       → Same l r c (withAll q entries points x c) x
+  -- bytes appended behind a tag: but for 19 every answer and every result of an evaluation stays. Coordinates are 16-bit numbers
+  pub tag-bytes : (e : Evaluator) (c : Pixels) (q : List ℕ)
+      → Each16 (c .coordinates)
+      → (evaluated l e c ≡ Colour·Answer.refused noColourTable) ⊎ SameColours l e c (behindTag q c) []
+  -- more words lent: but for 14, and so; the words behind the results stay as they were lent
+  pub more-words : (e : Evaluator) (c : Pixels) (x : List ℕ)
+      → (evaluated l e c ≡ Colour·Answer.refused tooFewSlots) ⊎ SameColours l e c (withWords x c) x
+  -- where the words are too few they do not hold the results
+  pub words-short : (e : Evaluator) (c : Pixels)
+      → evaluated l e c ≡ Colour·Answer.refused tooFewSlots
+      → length (c .words) < resultsAsked e c
+  -- and that refusal comes last: the evaluation ends with its results once enough are lent
+  pub words-last : (e : Evaluator) (c : Pixels) (x : List ℕ)
+      → evaluated l e c ≡ Colour·Answer.refused tooFewSlots
+      → resultsAsked e c ≤ length (c .words ++ x)
+      → evaluated l e (withWords x c) ≡ Colour·Answer.value (resultsAsked e c)
+  -- so what has results keeps every one of them, with both
+  pub results-stay : (e : Evaluator) (c : Pixels) (q x : List ℕ) (k : ℕ)
+      → Each16 (c .coordinates)
+      → evaluated l e c ≡ Colour·Answer.value k
+      → SameColours l e c (withWords x (behindTag q c)) x

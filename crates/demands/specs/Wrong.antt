@@ -1,11 +1,11 @@
--- Wrong readers, each made of a library by one fault, and the sentence that they are shut out.
+-- Wrong readers and evaluators, each made of a library by one fault, and the sentence that they are shut out.
 use Prim.Native.Nat.{ℕ, zero, suc, _*_}
 use mathlib.Core.Bool.{Bool, true, false, cond}
 use mathlib.Core.List.{List, [], _++_}
-use lib.ListN.{take, replicate}
+use lib.ListN.{length, take, replicate}
 use Rattle.fields.specs.House.{tagSize}
 use Rattle.fields.specs.declared.Refusal.{Refusal}
-use Rattle.fields.specs.declared.Refusal.the-variants.{PastProfile}
+use Rattle.fields.specs.declared.Refusal.the-variants.{PastProfile, NoColourTable}
 use Rattle.curve_meaning.specs.Shape.{recordWords}
 use Rattle.curve_meaning.specs.declared.CurveAnswer.{CurveAnswer}
 use Rattle.curve_meaning.specs.declared.Walk.{Walk}
@@ -16,9 +16,21 @@ use Rattle.lut_meaning.specs.declared.LutAnswer.{LutAnswer}
 use Rattle.small_meaning.specs.Answer.{Answer as Small·Answer}
 use Rattle.small_meaning.specs.Readers.{Small, smallNumbers, smallNone, smallRefusal}
 use Rattle.text_meaning.specs.declared.TextAnswer.{TextAnswer}
-use Rattle.demands.specs.Readers.{Reader, lut, trc, string, small, Call}
-use Rattle.demands.specs.Readers.{Result, slotsAfter, Library, Promised}
+use Rattle.lut_view_meaning.specs.View.{tableBy}
+use Rattle.evaluate_meaning.specs.Colour.{colour}
+use Rattle.evaluate_meaning.specs.Evaluate.{pixelsOf}
+use Rattle.evaluate_meaning.specs.declared.Evaluation.{Evaluation}
+use Rattle.demands.specs.Readers.{Reader, lut, trc, string, small, Call, Evaluator, pixel, row, Pixels}
+use Rattle.demands.specs.Readers.{Result, slotsAfter, wordsAfter, Library, Promised}
 use Rattle.demands.specs.Demands.{tag, inFront, Demand1, Demand2}
+
+-- a library with other readers, and one with other evaluators
+abbrev pub withReaders : Library → ((r : Reader) → Call → Result r) → (Reader → Call → List ℕ) → Library
+withReaders l returns leaves = record { returns = returns; leaves = leaves; reads = l .reads; evaluates = l .evaluates; fills = l .fills }
+
+abbrev pub withEvaluators : Library → (Evaluator → Pixels → Evaluation) → (Evaluator → Pixels → List ℕ) → Library
+withEvaluators l evaluates fills =
+    record { returns = l .returns; leaves = l .leaves; reads = l .reads; evaluates = evaluates; fills = fills }
 
 -- ---- one that refuses all
 
@@ -29,7 +41,7 @@ refusal string why = TextAnswer.Refused why
 refusal (small s) why = smallRefusal s why
 
 abbrev pub refusesAll : Library → Library
-refusesAll l = record { returns = λ r c. refusal r PastProfile; leaves = λ r c. c .slots; reads = l .reads }
+refusesAll l = withReaders l (λ r c. refusal r PastProfile) (λ r c. c .slots)
 
 -- ---- one that always answers the default, and one that always answers the identity
 
@@ -50,7 +62,7 @@ defaultInstead string x = x
 defaultInstead (small s) x = cond (hasDefault s) (smallNone s) x
 
 abbrev pub alwaysDefault : Library → Library
-alwaysDefault l = record { returns = λ r c. defaultInstead r (l .returns r c); leaves = l .leaves; reads = l .reads }
+alwaysDefault l = withReaders l (λ r c. defaultInstead r (l .returns r c)) (l .leaves)
 
 abbrev pub identityInstead : (r : Reader) → Result r → Result r
 identityInstead (lut walk) x = x
@@ -60,12 +72,12 @@ identityInstead string x = x
 identityInstead (small s) x = x
 
 abbrev pub alwaysIdentity : Library → Library
-alwaysIdentity l = record { returns = λ r c. identityInstead r (l .returns r c); leaves = l .leaves; reads = l .reads }
+alwaysIdentity l = withReaders l (λ r c. identityInstead r (l .returns r c)) (l .leaves)
 
 -- ---- one that accepts and leaves the slots unwritten
 
 abbrev pub unwritten : Library → Library
-unwritten l = record { returns = l .returns; leaves = λ r c. c .slots; reads = l .reads }
+unwritten l = withReaders l (l .returns) (λ r c. c .slots)
 
 -- ---- one that reads the first curve and copies it for the rest
 
@@ -84,7 +96,7 @@ copiedIn string c = slotsAfter string c
 copiedIn (small s) c = c .slots
 
 abbrev pub copied : Library → Library
-copied l = record { returns = l .returns; leaves = copiedIn; reads = l .reads }
+copied l = withReaders l (l .returns) copiedIn
 
 -- ---- one that makes up the number of records: one B curve, whatever the channels are
 
@@ -113,7 +125,7 @@ oneInstead string x = x
 oneInstead (small s) x = x
 
 abbrev pub madeUp : Library → Library
-madeUp l = record { returns = λ r c. oneInstead r (l .returns r c); leaves = l .leaves; reads = l .reads }
+madeUp l = withReaders l (λ r c. oneInstead r (l .returns r c)) (l .leaves)
 
 -- ---- one that writes the records that it read before it refuses
 
@@ -124,7 +136,7 @@ writtenIn string c = slotsAfter string c
 writtenIn (small s) c = c .slots
 
 abbrev pub tooEarly : Library → Library
-tooEarly l = record { returns = l .returns; leaves = writtenIn; reads = l .reads }
+tooEarly l = withReaders l (l .returns) writtenIn
 
 -- ---- one that writes zeros for the records
 
@@ -135,7 +147,38 @@ zerosIn string c = slotsAfter string c
 zerosIn (small s) c = c .slots
 
 abbrev pub zeroed : Library → Library
-zeroed l = record { returns = l .returns; leaves = zerosIn; reads = l .reads }
+zeroed l = withReaders l (l .returns) zerosIn
+
+-- ---- an evaluator that answers 19 to all
+
+abbrev pub evaluatesNothing : Library → Library
+evaluatesNothing l = withEvaluators l (λ e c. Evaluation.Refused NoColourTable) (λ e c. c .words)
+
+-- ---- one that answers and leaves the buffer unwritten
+
+abbrev pub unfilled : Library → Library
+unfilled l = withEvaluators l (l .evaluates) (λ e c. c .words)
+
+-- ---- one that evaluates the first pixel of a row and copies it for the rest
+
+abbrev pub firstColour : Pixels → List ℕ
+firstColour c = colour (c .tag) (tableBy (c .tag) (c .table)) (take (c .table .inputs) (c .coordinates))
+
+abbrev pub repeatedIn : Evaluator → Pixels → List ℕ
+repeatedIn pixel c = wordsAfter pixel c
+repeatedIn row c = inFront (copies (pixelsOf (c .table) (c .coordinates)) (firstColour c)) (c .words)
+
+abbrev pub repeated : Library → Library
+repeated l = withEvaluators l (l .evaluates) repeatedIn
+
+-- ---- one that writes as many results as there is room for before it refuses
+
+abbrev pub filledIn : Evaluator → Pixels → List ℕ
+filledIn pixel c = inFront (take (length (c .words)) (firstColour c)) (c .words)
+filledIn row c = wordsAfter row c
+
+abbrev pub filledEarly : Library → Library
+filledEarly l = withEvaluators l (l .evaluates) filledIn
 
 -- ---- none of them is admitted, whatever library it was made of
 
@@ -153,3 +196,11 @@ pub record ShutOut (l : Library) : Type 0 where
   pub written-too-early : Promised l → Demand1 (tooEarly l) → ⊥
   -- by `curves-in-tag`
   pub records-zeroed : Promised l → Demand1 (zeroed l) → ⊥
+  -- by `accepted-evaluates`
+  pub evaluates-nothing : Promised l → Demand1 (evaluatesNothing l) → ⊥
+  -- by `pixel-coloured`
+  pub words-unfilled : Demand2 (unfilled l) → ⊥
+  -- by `row-is-calls`
+  pub first-repeated : Demand2 (repeated l) → ⊥
+  -- by `refusal-leaves-words`
+  pub filled-too-early : Promised l → Demand1 (filledEarly l) → ⊥

@@ -1,1 +1,1 @@
-// No function: the three demands over all readers, and the worked cases.
+// No function: the three demands over all readers and evaluators, and the worked cases.

@@ -1,8 +1,9 @@
-// Each reader under the contract that the demands build on, `Keeps` and `Reads` of demands/specs/Readers.antt: a function a reader, which calls
-// it and adds nothing. So a reader that promises less is refused here. What a reader does not take may be anything: limits, and slots, which
+// Each reader under the contract that the demands build on, `Keeps`, `Reads` and `Evaluates` of demands/specs/Readers.antt: a function a reader, which
+// calls it and adds nothing. So a reader that promises less is refused here. What a reader does not take may be anything: limits, and slots, which
 // stay.
 use curve::CurveAnswer;
 use curve::Walk;
+use evaluate::Evaluation;
 use fields::Entry;
 use lut::Lut;
 use lut_view::EntryAnswer;
@@ -18,7 +19,7 @@ use text::TextAnswer;
 ghost use Prim.Native.Nat.{ℕ};
 ghost use mathlib.Core.List.{List};
 ghost use Rattle.small_meaning.specs.Readers.{chad, sig, date, meas, view, xyz, cicp};
-ghost use Rattle.demands.specs.Readers.{lut, trc, string, small, call, Keeps, Reads};
+ghost use Rattle.demands.specs.Readers.{lut, trc, string, small, call, pixel, row, pixels, Keeps, Reads, Evaluates};
 
 pub fn lut_tag(
     profile: &[u8],
@@ -92,4 +93,26 @@ pub fn entry_at(tag: &[u8], numbers: TableNumbers, index: &[u8], channel: u8) ->
     ensures { λ r. ⌜ Reads (now (tag .entry)) numbers (now (index .entry)) channel r ⌝ }
 {
     lut_view::entry_at(tag, numbers, index, channel)
+}
+
+pub fn one_pixel(
+    tag: &[u8],
+    numbers: TableNumbers,
+    coordinates: &[u16],
+    results: &mut [u16],
+) -> Evaluation
+    ensures { λ r. ⌜ Evaluates pixel (pixels (now (tag .entry)) numbers (now (coordinates .entry)) (now (results .entry))) r (now (results .exit)) ⌝ }
+{
+    evaluate::evaluate(tag, numbers, coordinates, results)
+}
+
+pub fn pixel_row(
+    tag: &[u8],
+    numbers: TableNumbers,
+    coordinates: &[u16],
+    results: &mut [u16],
+) -> Evaluation
+    ensures { λ r. ⌜ Evaluates row (pixels (now (tag .entry)) numbers (now (coordinates .entry)) (now (results .entry))) r (now (results .exit)) ⌝ }
+{
+    evaluate::evaluate_row(tag, numbers, coordinates, results)
 }
