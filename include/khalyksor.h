@@ -3,21 +3,21 @@
  * Each function answers every call: any profile, offset, size and limit. It returns a status, KHALYKSOR_VALUE,
  * KHALYKSOR_ABSENT, KHALYKSOR_DEFAULT, KHALYKSOR_NO_ROOM or the number of a refusal. The words of a value stand in
  * front of `out`, at the places that are named below, and the rest of `out` stays as it was; on any other status all of
- * `out` and of `slots` does.
+ * `out`, of `slots` and of `results` does.
  *
  * Lengths are uint64_t on every target, also where size_t has 32 bits. They count elements: bytes of `profile`, `tag`
- * and `index`, words of `slots`, `lut` and `out`.
+ * and `index`, numbers of `coordinates` and `results`, words of `slots`, `lut` and `out`.
  *
  * A pointer is good for as many elements as the length beside it says, and aligned as its type asks. With a length of 0
- * nothing is read or written there, and the pointer may be null. What is lent for writing, `out` and `slots`, overlaps
- * nothing else that is passed. Nothing else is asked, and the functions do not test this.
+ * nothing is read or written there, and the pointer may be null. What is lent for writing, `out`, `slots` and
+ * `results`, overlaps nothing else that is passed. Nothing else is asked, and the functions do not test this.
  *
  * `offset` and `size` are those of the profile's tag table. Positions in answers, KHALYKSOR_..._START, count bytes from
  * the tag's first byte, that is from profile + offset.
  *
- * A word of `out` has 64 bits and one of `slots` 32, in the order of the machine that runs, not big-endian as in the
- * profile. Where a word is a signed number, an s15Fixed16, it is a 32-bit word in two's complement: (int32_t)out[i],
- * not (int64_t)out[i]. It means that number over 65536.
+ * A word of `out` has 64 bits, one of `slots` 32 and a number of `coordinates` and `results` 16, in the order of the
+ * machine that runs, not big-endian as in the profile. Where a word is a signed number, an s15Fixed16, it is a 32-bit
+ * word in two's complement: (int32_t)out[i], not (int64_t)out[i]. It means that number over 65536.
  *
  * Limits are the caller's: `limit` is how many entries a curve may have, `points` how many grid points a colour table
  * of mft1 or mft2 may have. 0 is a limit of none at all, not `no limit`.
@@ -36,16 +36,16 @@ extern "C" {
 
 /* The version of this file. khalyksor_version() tells that of the library. */
 #define KHALYKSOR_VERSION_MAJOR 2
-#define KHALYKSOR_VERSION_MINOR 0
-#define KHALYKSOR_VERSION_TEXT "2.0"
+#define KHALYKSOR_VERSION_MINOR 1
+#define KHALYKSOR_VERSION_TEXT "2.1"
 #define KHALYKSOR_VERSION (KHALYKSOR_VERSION_MAJOR * 0x10000u + KHALYKSOR_VERSION_MINOR)
 
 /* What a function returns that is no refusal. */
 enum {
-    KHALYKSOR_VALUE = 0, /* a value: its words stand in front of out, and of what needs records, these in slots */
+    KHALYKSOR_VALUE = 0, /* a value: its words stand in front of out, and of what needs records, these in slots; of an evaluation, its results in front of results */
     KHALYKSOR_ABSENT = 100, /* nothing there for this function; no fault is named */
     KHALYKSOR_DEFAULT = 101, /* XYZ alone: there was nothing to read, which stands for three zeros */
-    KHALYKSOR_NO_ROOM = 102 /* out, or the lut of khalyksor_entry_at, has fewer words than the function asks for; nothing was read or written */
+    KHALYKSOR_NO_ROOM = 102 /* out, or the lut of khalyksor_entry_at and of an evaluation, has fewer words than the function asks for; nothing was read or written */
 };
 
 /* Refusals: what a function returns for a fault. */
@@ -63,10 +63,11 @@ enum {
     KHALYKSOR_REFUSED_CURVE_RUNS_OUT = 11, /* the data of a curve run out */
     KHALYKSOR_REFUSED_FUNCTION_TYPE = 12, /* a function type above 4 */
     KHALYKSOR_REFUSED_ZERO_DIVISION = 13, /* a function of type 1 or 2 with a = 0 */
-    KHALYKSOR_REFUSED_TOO_FEW_SLOTS = 14, /* more records than slots */
+    KHALYKSOR_REFUSED_TOO_FEW_SLOTS = 14, /* more records than slots; of an evaluation, more results than results has room for */
     KHALYKSOR_REFUSED_BAD_TABLE = 15, /* mft1, mft2: entries, channels or grid points that are not allowed */
     KHALYKSOR_REFUSED_GRID_OVER_LIMIT = 16, /* mft1, mft2: more grid points than points */
-    KHALYKSOR_REFUSED_BAD_CHAD = 17 /* chad: another type, or a size of 45 to 47 */
+    KHALYKSOR_REFUSED_BAD_CHAD = 17, /* chad: another type, or a size of 45 to 47 */
+    KHALYKSOR_REFUSED_NO_COLOUR_TABLE = 19 /* an evaluation: no colour table of 1 to 4 inputs, or not as many coordinates as it has inputs */
 };
 
 /* How a run of curves steps over an empty one. */
@@ -330,6 +331,25 @@ uint32_t khalyksor_read_cicp_tag(const uint8_t *profile, uint64_t profile_length
 uint32_t khalyksor_entry_at(const uint8_t *tag, uint64_t tag_length, const uint64_t *lut, uint64_t lut_words,
                             const uint8_t *index, uint64_t index_length, uint8_t channel, uint64_t *out,
                             uint64_t out_words);
+
+/* The colour of a colour table between its points, in integers. tag and lut are those of khalyksor_entry_at.
+ * coordinates has a number for each input channel, 1 to 4 of them, 0 the first point of its dimension and 65535 the
+ * last; the first is the slowest. A result for each output channel, 0 to 65535, goes in front of results,
+ * lut[KHALYKSOR_LUT_OUTPUTS] of them, and the rest of it stays; entries of one byte count 257 fold. Neighbours blend
+ * dimension by dimension, rounded each time: (low * (65535 - rest) + high * rest + 32767) / 65535.
+ * KHALYKSOR_REFUSED_NO_COLOUR_TABLE where there is no colour table of 1 to 4 inputs, where the words name none that
+ * lies in the tag, and for another number of coordinates; then KHALYKSOR_REFUSED_TOO_FEW_SLOTS for results too
+ * short. */
+uint32_t khalyksor_evaluate(const uint8_t *tag, uint64_t tag_length, const uint64_t *lut, uint64_t lut_words,
+                            const uint16_t *coordinates, uint64_t coordinates_length, uint16_t *results,
+                            uint64_t results_length);
+
+/* khalyksor_evaluate of each pixel of a row: coordinates and results stand pixel after pixel, and table and room are
+ * judged once. KHALYKSOR_REFUSED_NO_COLOUR_TABLE also for coordinates that are no whole number of pixels. No
+ * coordinates are a row of no pixels. */
+uint32_t khalyksor_evaluate_row(const uint8_t *tag, uint64_t tag_length, const uint64_t *lut, uint64_t lut_words,
+                                const uint16_t *coordinates, uint64_t coordinates_length, uint16_t *results,
+                                uint64_t results_length);
 
 /* Whether out[KHALYKSOR_CICP_RANGE] of cicp says full range: 1 if so, else 0. No status. */
 uint32_t khalyksor_full_range(uint64_t range);

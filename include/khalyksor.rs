@@ -3,21 +3,21 @@
 // Each function answers every call: any profile, offset, size and limit. It returns a status, KHALYKSOR_VALUE,
 // KHALYKSOR_ABSENT, KHALYKSOR_DEFAULT, KHALYKSOR_NO_ROOM or the number of a refusal. The words of a value stand in
 // front of `out`, at the places that are named below, and the rest of `out` stays as it was; on any other status all of
-// `out` and of `slots` does.
+// `out`, of `slots` and of `results` does.
 //
 // Lengths are uint64_t on every target, also where size_t has 32 bits. They count elements: bytes of `profile`, `tag`
-// and `index`, words of `slots`, `lut` and `out`.
+// and `index`, numbers of `coordinates` and `results`, words of `slots`, `lut` and `out`.
 //
 // A pointer is good for as many elements as the length beside it says, and aligned as its type asks. With a length of 0
-// nothing is read or written there, and the pointer may be null. What is lent for writing, `out` and `slots`, overlaps
-// nothing else that is passed. Nothing else is asked, and the functions do not test this.
+// nothing is read or written there, and the pointer may be null. What is lent for writing, `out`, `slots` and
+// `results`, overlaps nothing else that is passed. Nothing else is asked, and the functions do not test this.
 //
 // `offset` and `size` are those of the profile's tag table. Positions in answers, KHALYKSOR_..._START, count bytes from
 // the tag's first byte, that is from profile + offset.
 //
-// A word of `out` has 64 bits and one of `slots` 32, in the order of the machine that runs, not big-endian as in the
-// profile. Where a word is a signed number, an s15Fixed16, it is a 32-bit word in two's complement: (int32_t)out[i],
-// not (int64_t)out[i]. It means that number over 65536.
+// A word of `out` has 64 bits, one of `slots` 32 and a number of `coordinates` and `results` 16, in the order of the
+// machine that runs, not big-endian as in the profile. Where a word is a signed number, an s15Fixed16, it is a 32-bit
+// word in two's complement: (int32_t)out[i], not (int64_t)out[i]. It means that number over 65536.
 //
 // Limits are the caller's: `limit` is how many entries a curve may have, `points` how many grid points a colour table
 // of mft1 or mft2 may have. 0 is a limit of none at all, not `no limit`.
@@ -27,13 +27,13 @@
 #![allow(dead_code)]
 
 // The version of this file. khalyksor_version() tells that of the library.
-pub const KHALYKSOR_VERSION: u32 = 2 * 0x1_0000 + 0;
+pub const KHALYKSOR_VERSION: u32 = 2 * 0x1_0000 + 1;
 
 // What a function returns that is no refusal.
-pub const KHALYKSOR_VALUE: u32 = 0; // a value: its words stand in front of out, and of what needs records, these in slots
+pub const KHALYKSOR_VALUE: u32 = 0; // a value: its words stand in front of out, and of what needs records, these in slots; of an evaluation, its results in front of results
 pub const KHALYKSOR_ABSENT: u32 = 100; // nothing there for this function; no fault is named
 pub const KHALYKSOR_DEFAULT: u32 = 101; // XYZ alone: there was nothing to read, which stands for three zeros
-pub const KHALYKSOR_NO_ROOM: u32 = 102; // out, or the lut of khalyksor_entry_at, has fewer words than the function asks for; nothing was read or written
+pub const KHALYKSOR_NO_ROOM: u32 = 102; // out, or the lut of khalyksor_entry_at and of an evaluation, has fewer words than the function asks for; nothing was read or written
 
 // Refusals: what a function returns for a fault.
 pub const KHALYKSOR_REFUSED_PAST_PROFILE: u32 = 1; // bytes that are needed lie past the profile
@@ -49,10 +49,11 @@ pub const KHALYKSOR_REFUSED_TOO_MANY_ENTRIES: u32 = 10; // a curve has more entr
 pub const KHALYKSOR_REFUSED_CURVE_RUNS_OUT: u32 = 11; // the data of a curve run out
 pub const KHALYKSOR_REFUSED_FUNCTION_TYPE: u32 = 12; // a function type above 4
 pub const KHALYKSOR_REFUSED_ZERO_DIVISION: u32 = 13; // a function of type 1 or 2 with a = 0
-pub const KHALYKSOR_REFUSED_TOO_FEW_SLOTS: u32 = 14; // more records than slots
+pub const KHALYKSOR_REFUSED_TOO_FEW_SLOTS: u32 = 14; // more records than slots; of an evaluation, more results than results has room for
 pub const KHALYKSOR_REFUSED_BAD_TABLE: u32 = 15; // mft1, mft2: entries, channels or grid points that are not allowed
 pub const KHALYKSOR_REFUSED_GRID_OVER_LIMIT: u32 = 16; // mft1, mft2: more grid points than points
 pub const KHALYKSOR_REFUSED_BAD_CHAD: u32 = 17; // chad: another type, or a size of 45 to 47
+pub const KHALYKSOR_REFUSED_NO_COLOUR_TABLE: u32 = 19; // an evaluation: no colour table of 1 to 4 inputs, or not as many coordinates as it has inputs
 
 // How a run of curves steps over an empty one.
 pub const KHALYKSOR_WALK_CRATE: u32 = 0; // an empty curve moves the walk by nothing, as in moxcms: the next channel reads it again
@@ -345,6 +346,39 @@ unsafe extern "C" {
         channel: u8,
         out: *mut u64,
         out_words: u64,
+    ) -> u32;
+
+    // The colour of a colour table between its points, in integers. `tag` and `lut` are those of khalyksor_entry_at.
+    // `coordinates` has a number for each input channel, 1 to 4 of them, 0 the first point of its dimension and 65535
+    // the last; the first is the slowest. A result for each output channel, 0 to 65535, goes in front of `results`,
+    // lut[KHALYKSOR_LUT_OUTPUTS] of them, and the rest of it stays; entries of one byte count 257 fold. Neighbours
+    // blend dimension by dimension, rounded each time: (low * (65535 - rest) + high * rest + 32767) / 65535.
+    // KHALYKSOR_REFUSED_NO_COLOUR_TABLE where there is no colour table of 1 to 4 inputs, where the words name none that
+    // lies in the tag, and for another number of coordinates; then KHALYKSOR_REFUSED_TOO_FEW_SLOTS for `results` too
+    // short.
+    pub fn khalyksor_evaluate(
+        tag: *const u8,
+        tag_length: u64,
+        lut: *const u64,
+        lut_words: u64,
+        coordinates: *const u16,
+        coordinates_length: u64,
+        results: *mut u16,
+        results_length: u64,
+    ) -> u32;
+
+    // khalyksor_evaluate of each pixel of a row: coordinates and results stand pixel after pixel, and table and room
+    // are judged once. KHALYKSOR_REFUSED_NO_COLOUR_TABLE also for coordinates that are no whole number of pixels. No
+    // coordinates are a row of no pixels.
+    pub fn khalyksor_evaluate_row(
+        tag: *const u8,
+        tag_length: u64,
+        lut: *const u64,
+        lut_words: u64,
+        coordinates: *const u16,
+        coordinates_length: u64,
+        results: *mut u16,
+        results_length: u64,
     ) -> u32;
 
     // Whether out[KHALYKSOR_CICP_RANGE] of cicp says full range: 1 if so, else 0. No status.

@@ -55,7 +55,7 @@ fn bad_job() -> bool {
 fn run_next(
     head: &mut [u8],
     profile: &mut [u8; 1_048_576],
-    behind: &mut [u8; 18],
+    behind: &mut [u8; 19],
     words: &mut [u32; 8_192],
     line: &mut [u8; 196_608],
 ) -> bool {
@@ -76,7 +76,7 @@ fn run_next(
 fn main() {
     let mut head = [0u8; 33];
     let mut profile = [0u8; 1_048_576];
-    let mut behind = [0u8; 18];
+    let mut behind = [0u8; 19];
     let mut words = [0u32; 8_192];
     let mut line = [0u8; 196_608];
     let mut left: u64 = 0xFFFF_FFFF_FFFF_FFFF;

@@ -4,9 +4,9 @@ use Prim.Native.Nat.{ℕ, _≤_, _<_}
 use mathlib.Core.Path.{_≡_}
 use mathlib.Core.List.{List}
 use lib.ListN.{length, getD}
-use borrow.Author.Tests.{lt-ltb, le-ltb}
-use Rattle.fields.specs.Bytes.{u32At}
-use Rattle.answers_jobs.specs.Stream.{u64At, headOf, tailOf}
+use borrow.Author.Tests.{lt-ltb, le-ltb, eq-eqb, ne-eqb}
+use Rattle.fields.specs.Bytes.{u16At, u32At}
+use Rattle.answers_jobs.specs.Stream.{u64At, headOf, bytesBehind, atMostEight, pixelIn, tailOf}
 use Rattle.answers_jobs.specs.declared.StreamHead.{StreamHead}
 use Rattle.answers_jobs.specs.declared.StreamIndex.{StreamIndex}
 use Rattle.answers_jobs.specs.declared.StreamTail.{StreamTail}
@@ -36,33 +36,49 @@ pub ruleset head-laws = (head-short, head-words, head-length, head-job)
 
 -- ---- and what stands behind its profile
 
+module _ (m : List ℕ) (room : ℕ) (e : room ≡ u16At m 17) where
+  pub pixel-long : 512 < room → StreamTail.BadJob ≡ pixelIn m
+  unfolding pixelIn
+  pixel-long l = simp (← e, lt-ltb _ _ l)
+
+  pub pixel-asked : (asked n : ℕ) → room ≤ 512 → asked ≡ getD m 0 0 → n ≡ atMostEight asked → StreamTail.Pixel n room ≡ pixelIn m
+  unfolding pixelIn
+  pixel-asked asked n l f g = simp (← e, le-ltb _ _ l, ← f, ← g)
+
+pub ruleset pixel-laws = (pixel-long, pixel-asked)
+
 module _ (reader : ℕ) (m : List ℕ) where
   pub tail-low : reader < 1 → StreamTail.BadJob ≡ tailOf reader m
   unfolding tailOf
   tail-low l = simp (lt-ltb _ _ l)
 
   module _ (low : 1 ≤ reader) where
-    pub tail-high : 13 < reader → StreamTail.BadJob ≡ tailOf reader m
+    pub tail-high : 14 < reader → StreamTail.BadJob ≡ tailOf reader m
     unfolding tailOf
     tail-high l = simp (le-ltb _ _ low, lt-ltb _ _ l)
 
-    module _ (high : reader ≤ 13) where
+    module _ (high : reader ≤ 14) where
       pub tail-none : reader < 13 → StreamTail.Index StreamIndex.Nothing ≡ tailOf reader m
       unfolding tailOf
       tail-none l = simp (le-ltb _ _ low, le-ltb _ _ high, lt-ltb _ _ l)
 
-      module _ (last : 13 ≤ reader) where
-        pub tail-short : length m < 18 → StreamTail.BadJob ≡ tailOf reader m
+      module _ (last : 13 ≤ reader) (asked : ℕ) (a : asked ≡ bytesBehind reader) where
+        pub tail-short : length m < asked → StreamTail.BadJob ≡ tailOf reader m
         unfolding tailOf
-        tail-short l = simp (le-ltb _ _ low, le-ltb _ _ high, le-ltb _ _ last, lt-ltb _ _ l)
+        tail-short l = simp (le-ltb _ _ low, le-ltb _ _ high, le-ltb _ _ last, ← a, lt-ltb _ _ l)
 
-        module _ (long : 18 ≤ length m) (n : ℕ) (e : n ≡ getD m 0 0) where
-          pub tail-many : 16 < n → StreamTail.Index StreamIndex.TooMany ≡ tailOf reader m
+        module _ (long : asked ≤ length m) where
+          pub tail-pixel : (r : StreamTail) → reader ≡ 14 → r ≡ pixelIn m → r ≡ tailOf reader m
           unfolding tailOf
-          tail-many l = simp (le-ltb _ _ low, le-ltb _ _ high, le-ltb _ _ last, le-ltb _ _ long, ← e, lt-ltb _ _ l)
+          tail-pixel r e f = simp (le-ltb _ _ low, le-ltb _ _ high, le-ltb _ _ last, ← a, le-ltb _ _ long, eq-eqb _ _ e) f
 
-          pub tail-at : (channel : ℕ) → n ≤ 16 → channel ≡ getD m 17 0 → StreamTail.Index (StreamIndex.At n channel) ≡ tailOf reader m
-          unfolding tailOf
-          tail-at channel l f = simp (le-ltb _ _ low, le-ltb _ _ high, le-ltb _ _ last, le-ltb _ _ long, ← e, le-ltb _ _ l, ← f)
+          module _ (no : reader ≡ 14 → ⊥) (n : ℕ) (e : n ≡ getD m 0 0) where
+            pub tail-many : 16 < n → StreamTail.Index StreamIndex.TooMany ≡ tailOf reader m
+            unfolding tailOf
+            tail-many l = simp (le-ltb _ _ low, le-ltb _ _ high, le-ltb _ _ last, ← a, le-ltb _ _ long, ne-eqb _ _ no, ← e, lt-ltb _ _ l)
 
-pub ruleset tail-laws = (tail-low, tail-high, tail-none, tail-short, tail-many, tail-at)
+            pub tail-at : (channel : ℕ) → n ≤ 16 → channel ≡ getD m 17 0 → StreamTail.Index (StreamIndex.At n channel) ≡ tailOf reader m
+            unfolding tailOf
+            tail-at channel l f = simp (le-ltb _ _ low, le-ltb _ _ high, le-ltb _ _ last, ← a, le-ltb _ _ long, ne-eqb _ _ no, ← e, le-ltb _ _ l, ← f)
+
+pub ruleset tail-laws = (tail-low, tail-high, tail-none, tail-short, tail-pixel, tail-many, tail-at)

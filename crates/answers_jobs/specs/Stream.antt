@@ -13,12 +13,18 @@
 --    0        the number of coordinates
 --    1 to 16  the coordinates
 --   17        the output channel
+--
+-- Behind the profile of a job of reader 14, the evaluation, stands this.
+--
+--    0        the number of coordinates, of which eight at most count
+--    1 to 16  eight coordinates, two bytes each
+--   17 to 18  how many numbers the lent buffer has, at most 512
 use Prim.Native.Nat.{ℕ, _+_, _*_, _^_}
 use mathlib.Core.Bool.{cond}
 use mathlib.Core.List.{List}
 use lib.Dec.{ltb, eqb}
 use lib.ListN.{length, getD}
-use Rattle.fields.specs.Bytes.{u32At}
+use Rattle.fields.specs.Bytes.{u16At, u32At}
 use Rattle.answers_jobs.specs.declared.StreamJob.{StreamJob}
 use Rattle.answers_jobs.specs.declared.StreamHead.{StreamHead}
 use Rattle.answers_jobs.specs.declared.StreamIndex.{StreamIndex}
@@ -49,15 +55,23 @@ headOf h =
     StreamHead.Job (jobOf h))))
 
 -- how many bytes stand behind the profile
-abbrev pub bytesBehind : ℕ → ℕ
-bytesBehind reader = cond (eqb reader 13) 18 0
+unfoldable pub bytesBehind : ℕ → ℕ
+bytesBehind reader = cond (eqb reader 13) 18 (cond (eqb reader 14) 19 0)
 
--- what stands behind the profile; there are readers 1 to 13, and only the last has a grid index
+-- what an evaluation is asked for
+abbrev pub atMostEight : ℕ → ℕ
+atMostEight n = cond (ltb 8 n) 8 n
+
+unfoldable pub pixelIn : List ℕ → StreamTail
+pixelIn b = cond (ltb 512 (u16At b 17)) StreamTail.BadJob (StreamTail.Pixel (atMostEight (getD b 0 0)) (u16At b 17))
+
+-- what stands behind the profile; there are readers 1 to 14, of which 13 has a grid index and 14 coordinates
 unfoldable pub tailOf : ℕ → List ℕ → StreamTail
 tailOf reader b =
     cond (ltb reader 1) StreamTail.BadJob (
-    cond (ltb 13 reader) StreamTail.BadJob (
+    cond (ltb 14 reader) StreamTail.BadJob (
     cond (ltb reader 13) (StreamTail.Index StreamIndex.Nothing) (
-    cond (ltb (length b) 18) StreamTail.BadJob (
+    cond (ltb (length b) (bytesBehind reader)) StreamTail.BadJob (
+    cond (eqb reader 14) (pixelIn b) (
     cond (ltb 16 (getD b 0 0)) (StreamTail.Index StreamIndex.TooMany) (
-    StreamTail.Index (StreamIndex.At (getD b 0 0) (getD b 17 0)))))))
+    StreamTail.Index (StreamIndex.At (getD b 0 0) (getD b 17 0))))))))

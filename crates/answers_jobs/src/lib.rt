@@ -1,7 +1,7 @@
 // The jobs of `answers`, taken apart.
 use fields::InTag;
 ghost use mathlib.Core.Path.{_≡_};
-ghost use Rattle.answers_jobs.specs.Stream.{u64At, headOf, bytesBehind, tailOf};
+ghost use Rattle.answers_jobs.specs.Stream.{u64At, headOf, bytesBehind, atMostEight, pixelIn, tailOf};
 
 // A job of `answers`: which reader, where its tag stands, the limits, the words lent, and how long the profile behind it is.
 pub struct StreamJob {
@@ -67,20 +67,54 @@ pub enum StreamIndex {
     TooMany,
 }
 
-// A job that names no reader, or has fewer bytes behind its profile than its reader asks, is bad.
+// What stands behind the profile: an index, if any; of an evaluation, so many coordinates of two bytes from byte 1 on, and how many numbers the lent
+// buffer has. A job that names no reader, has fewer bytes behind its profile than its reader asks, or a longer buffer than is allowed, is bad.
 pub enum StreamTail {
     Index(StreamIndex),
+    Pixel { coordinates: u8, room: u16 },
     BadJob,
 }
 
-// The last reader of `answers`, the table view.
+// The last readers of `answers`, the table view and the evaluation.
 pub const TABLE_VIEW: u8 = 13;
+
+pub const EVALUATION: u8 = 14;
+
+// The bounds of an evaluation: coordinates that count, and numbers of its buffer.
+const MAX_COORDINATES: u8 = 8;
+
+const MAX_ROOM: u16 = 512;
 
 // How many bytes stand behind the profile in a job of a reader.
 pub fn bytes_behind(reader: u8) -> usize
     ensures { λ r. ⌜ r ≡ bytesBehind reader ⌝ }
 {
-    if reader == TABLE_VIEW { 18 } else { 0 }
+    if reader == TABLE_VIEW {
+        return 18;
+    }
+    if reader == EVALUATION { 19 } else { 0 }
+}
+
+fn at_most_eight(n: u8) -> u8
+    ensures { λ r. ⌜ r ≡ atMostEight n ⌝ }
+{
+    if MAX_COORDINATES < n {
+        MAX_COORDINATES
+    } else {
+        n
+    }
+}
+
+// Takes apart what stands behind the profile in a job of the evaluation.
+fn read_pixel(bytes: &[u8]) -> StreamTail
+    ensures { λ r. ⌜ r ≡ pixelIn (now (bytes .entry)) ⌝ }
+{
+    let room = fields::u16_at(bytes, InTag(17));
+    if MAX_ROOM < room {
+        return StreamTail::BadJob;
+    }
+    let coordinates = at_most_eight(fields::u8_at(bytes, InTag(0)));
+    StreamTail::Pixel { coordinates, room }
 }
 
 // Takes apart what stands behind the profile in a job of a reader.
@@ -90,14 +124,18 @@ pub fn read_tail(reader: u8, behind: &[u8]) -> StreamTail
     if reader < 1 {
         return StreamTail::BadJob;
     }
-    if TABLE_VIEW < reader {
+    if EVALUATION < reader {
         return StreamTail::BadJob;
     }
     if reader < TABLE_VIEW {
         return StreamTail::Index(StreamIndex::Nothing);
     }
-    if behind.len() < 18 {
+    let asked = bytes_behind(reader);
+    if behind.len() < asked {
         return StreamTail::BadJob;
+    }
+    if reader == EVALUATION {
+        return read_pixel(behind);
     }
     let coordinates = fields::u8_at(behind, InTag(0));
     if 16 < coordinates {

@@ -8,8 +8,9 @@ use mathlib.Core.List.{List, [], _∷_, _++_}
 use lib.ListN.{length, getD, take, drop, set, replicate}
 use lib.Seq.{sets, length-sets, take-append-le}
 use lib.Dec.{ltb, eqb}
-use borrow.Author.Tests.{lt-ltb, ltb-false, eqb-true, eq-eqb, ne-eqb}
+use borrow.Author.Tests.{lt-ltb, ltb-false, eqb-true, eqb-false, eq-eqb, ne-eqb}
 use Rattle.fields.proofs.Choice.{each}
+use Rattle.fields.specs.Bytes.{u16At}
 use Rattle.fields.specs.Place.{placeOf, countedSize, countedTag}
 use Rattle.fields.specs.declared.Place.{Place}
 use Rattle.fields.specs.declared.Place.the-variants.{Past}
@@ -17,7 +18,7 @@ use Rattle.fields.proofs.Located.{past, part-is}
 use Rattle.fields.proofs.Never.{never}
 use Rattle.lut_meaning.specs.Lut.{lutOf}
 use Rattle.lut_view_meaning.specs.View.{tableBy, entryOf}
-use Rattle.answers_jobs.specs.Stream.{tailOf}
+use Rattle.answers_jobs.specs.Stream.{bytesBehind, pixelIn, tailOf}
 use Rattle.answers_jobs.specs.declared.StreamTail.{StreamTail}
 use Rattle.answers_lines.specs.View.{ViewAndWords}
 use Rattle.fields.proofs.Stores.{front, fill-begins, fill-turns, fill-ends}
@@ -35,7 +36,7 @@ use Rattle.export_small.specs.Layout.{smallExported, chadLayout, sigLayout, dat
 use Rattle.export_text.specs.Layout.{textExported, stringLayout, descLayout}
 use Rattle.answers_jobs.specs.declared.StreamIndex.{StreamIndex}
 use Rattle.answers_jobs.specs.declared.StreamJob.{StreamJob}
-use Rattle.answers_meaning.specs.Line.{markAt, marked, entryExportedAt, viewExported, lutExportedOf, lutWordsAfter, curveExportedOf, exportedOf, wordsAfter, layoutOf, several, lineOf, ExportedAndWords, LineAndWords}
+use Rattle.answers_meaning.specs.Line.{markAt, marked, entryExportedAt, viewExported, lutExportedOf, lutWordsAfter, curveExportedOf, exportedOf, wordsAfter, layoutOf, several, lineTo, lineOf, ExportedAndWords, LineAndWords}
 use Rattle.answers_meaning.specs.Text.{valueWord, absentWord, defaultWord, nameText, wordsText, exportedText, refusedText, lentText}
 use Rattle.answers_meaning.proofs.Marks.{marks-length, mark-is}
 
@@ -143,7 +144,7 @@ lent-hidden shown ws k at e = rw e (nothing k at)
 -- ---- by the status
 
 -- no layout has more than 37 words
-few-lut : (first : ℕ) → lutLayout first .words ≤ 37
+pub few-lut : (first : ℕ) → lutLayout first .words ≤ 37
 unfolding lutLayout
 few-lut first =
     each (λ (l : Layout). l .words ≤ 37) (eqb first _) _ _ (λ _. omega arith)
@@ -213,7 +214,7 @@ word-in-front (x ∷ ws) zs (suc i) z = word-in-front ws zs i z
 pub filled : (ws : List ℕ) → length ws ≤ 37 → (i : ℕ) → getD (sets (replicate 37 0) 0 ws) i 0 ≡ getD ws i 0
 filled ws h i = rw (← front (replicate 37 0) ws (length ws) refl h) (word-in-front ws (drop (length ws) (replicate 37 0)) i (none-behind (length ws) 37))
 
-same-numbers : (a b : List ℕ) → ((i : ℕ) → getD a i 0 ≡ getD b i 0) → numbersIn a ≡ numbersIn b
+pub same-numbers : (a b : List ℕ) → ((i : ℕ) → getD a i 0 ≡ getD b i 0) → numbersIn a ≡ numbersIn b
 unfolding numbersIn
 same-numbers a b h = rw (h 0, h 1, h 2, h 17, h 31, h 33)
 
@@ -223,16 +224,25 @@ same-entry a b t behind (StreamIndex.At n channel) e = rw e
 same-entry a b t behind StreamIndex.TooMany e = refl
 same-entry a b t behind StreamIndex.Nothing e = refl
 
+view-bytes : (r : ℕ) → ltb 14 r ≡ false → ltb r 13 ≡ false → eqb r 14 ≡ false → bytesBehind r ≡ 18
+unfolding bytesBehind
+view-bytes r high low other =
+    let differs = eqb-false r 14 other in
+    let e : r ≡ 13 = omega (arith, ltb-false 14 r high, ltb-false r 13 low, differs) in
+    rw e
+
 -- a job's coordinates are there
 pub tail-room : (reader : ℕ) (b : List ℕ) (index : StreamIndex) (n channel : ℕ) → tailOf reader b ≡ StreamTail.Index index → index ≡ StreamIndex.At n channel → 1 + n ≤ length b
-unfolding tailOf
+unfolding tailOf pixelIn
 tail-room reader b index n channel t f =
     each P (ltb reader 1) _ _ (λ _ e. never cc)
-    (λ _. each P (ltb 13 reader) _ _ (λ _ e. never cc)
-    (λ _. each P (ltb reader 13) _ _ (λ _ e. never cc)
-    (λ _. each P (ltb (length b) 18) _ _ (λ _ e. never cc)
-    (λ long. each P (ltb 16 (getD b 0 0)) _ _ (λ _ e. never cc)
-    (λ few e. let q : getD b 0 0 ≡ n = cc in omega (arith, ltb-false (length b) 18 long, ltb-false 16 (getD b 0 0) few)))))) (t ∙ ap StreamTail.Index f)
+    (λ _. each P (ltb 14 reader) _ _ (λ _ e. never cc)
+    (λ high. each P (ltb reader 13) _ _ (λ _ e. never cc)
+    (λ low. each P (ltb (length b) (bytesBehind reader)) _ _ (λ _ e. never cc)
+    (λ long. each P (eqb reader 14) _ _
+    (λ _. each P (ltb 512 (u16At b 17)) _ _ (λ _ e. never cc) (λ _ e. never cc))
+    (λ other. each P (ltb 16 (getD b 0 0)) _ _ (λ _ e. never cc)
+    (λ few e. let q : getD b 0 0 ≡ n = cc in omega (arith, view-bytes reader high low other, ltb-false (length b) (bytesBehind reader) long, ltb-false 16 (getD b 0 0) few))))))) (t ∙ ap StreamTail.Index f)
   where
     P : StreamTail → Type 0
     P x = x ≡ StreamTail.Index (StreamIndex.At n channel) → 1 + n ≤ length b
@@ -308,19 +318,29 @@ told-length {job} {p} {w} {b} {index} a =
     let zeros : List ℕ = replicate 37 0 in
     ap length (a .gave .out-is) ∙ length-sets zeros 0 (exportedOf job p w b index .words)
 
+pub line-ends : (job : StreamJob) (p w b : List ℕ) {index : StreamIndex} {r : ℕ} {out w' k l o q : List ℕ} {i j end : ℕ} {shown : Bool} → ExportedAndWords job p w b index r (replicate 37 0) out w' → shown ≡ several (job .reader) → Wrote k l 0 i (exportedText (several (job .reader)) (layoutOf (job .reader)) record { status = r; words = out }) → Wrote l o i j (cond shown (lentText w') []) → Wrote o q j end (0x0a ∷ []) → LineAndWords (lineTo (StreamTail.Index index) job p w b) k q w' end
+line-ends job p w b {index} {r} {out} a s u v x =
+    let told = same-text (job .reader) (exportedOf job p w b index) r out (a .gave) in
+    record { written = rw (← told, ← a .words-are) (joined (joined u (rw s at v)) x); words-are = a .words-are }
+
+-- the line of a job is that of what stands behind its profile
 module _ (job : StreamJob) (p b : List ℕ) (n : ℕ) {w : List ℕ} {tail : StreamTail} (m : w ≡ marked n) (t : tail ≡ tailOf (job .reader) b) where
   pub asks : {index : StreamIndex} → tail ≡ StreamTail.Index index → tailOf (job .reader) b ≡ StreamTail.Index index
   asks e = sym t ∙ e
+
+  pub asks-pixel : {count room : ℕ} → tail ≡ StreamTail.Pixel count room → tailOf (job .reader) b ≡ StreamTail.Pixel count room
+  asks-pixel e = sym t ∙ e
 
   pub no-line : (k : List ℕ) → tail ≡ StreamTail.BadJob → LineAndWords (lineOf job p b n) k k w 0
   unfolding lineOf
   no-line k e = record { written = rw (← t, e) (nothing k 0); words-are = rw (← t, e) m }
 
-  pub line-ends : {index : StreamIndex} {r : ℕ} {out w' k l o q : List ℕ} {i j end : ℕ} {shown : Bool} → tail ≡ StreamTail.Index index → ExportedAndWords job p w b index r (replicate 37 0) out w' → shown ≡ several (job .reader) → Wrote k l 0 i (exportedText (several (job .reader)) (layoutOf (job .reader)) record { status = r; words = out }) → Wrote l o i j (cond shown (lentText w') []) → Wrote o q j end (0x0a ∷ []) → LineAndWords (lineOf job p b n) k q w' end
+  line-of : (x : StreamTail) {k q w' : List ℕ} {end : ℕ} → tail ≡ x → LineAndWords (lineTo x job p w b) k q w' end → LineAndWords (lineOf job p b n) k q w' end
   unfolding lineOf
-  line-ends {index} {r} {out} e a s u v x =
-      let told = same-text (job .reader) (exportedOf job p w b index) r out (a .gave) in
-      record {
-        written = rw (← t, e, ← m, ← told, ← a .words-are) (joined (joined u (rw s at v)) x);
-        words-are = rw (← t, e, ← m) (a .words-are);
-      }
+  line-of x e g = rw (← t, e, ← m) g
+
+  pub line-of-reader : (index : StreamIndex) {k q w' : List ℕ} {end : ℕ} → tail ≡ StreamTail.Index index → LineAndWords (lineTo (StreamTail.Index index) job p w b) k q w' end → LineAndWords (lineOf job p b n) k q w' end
+  line-of-reader index e g = line-of (StreamTail.Index index) e g
+
+  pub line-of-pixel : (count room : ℕ) {k q w' : List ℕ} {end : ℕ} → tail ≡ StreamTail.Pixel count room → LineAndWords (lineTo (StreamTail.Pixel count room) job p w b) k q w' end → LineAndWords (lineOf job p b n) k q w' end
+  line-of-pixel count room e g = line-of (StreamTail.Pixel count room) e g

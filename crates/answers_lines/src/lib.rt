@@ -1,5 +1,8 @@
 // The lines of the program `answers`: a job whose bytes are read is answered in a lent buffer. The answer is asked of the exported functions, as
 // a user of theirs asks it, and its line is printed from the words that they tell.
+mod pixel;
+
+use answers_jobs::EVALUATION;
 use answers_jobs::StreamIndex;
 use answers_jobs::StreamJob;
 use answers_jobs::StreamTail;
@@ -19,7 +22,7 @@ ghost use Rattle.answers_jobs.specs.Stream.{tailOf};
 ghost use Rattle.lines.specs.Text.{Wrote};
 ghost use Rattle.export_words.specs.Exported.{always, Gave};
 ghost use Rattle.export_lut.specs.Layout.{entryLayout};
-ghost use Rattle.answers_meaning.specs.Line.{marked, entryExportedAt, layoutOf, several as Line·several, lineOf, ExportedAndWords, LineAndWords};
+ghost use Rattle.answers_meaning.specs.Line.{marked, entryExportedAt, layoutOf, several as Line·several, lineTo, lineOf, ExportedAndWords, LineAndWords};
 ghost use Rattle.answers_meaning.specs.Text.{nameText, wordsText, exportedText, lentText};
 ghost use Rattle.answers_lines.specs.View.{ViewAndWords};
 
@@ -229,9 +232,73 @@ fn put_lent(line: &mut [u8], at: usize, shown: bool, words: &[u32]) -> usize
     at
 }
 
+// Puts the line of a job of a reader.
+fn answer_reader(
+    profile: &[u8],
+    job: StreamJob,
+    behind: &[u8],
+    index: StreamIndex,
+    words: &mut [u32],
+    line: &mut [u8],
+) -> usize
+    requires { ⌜ tailOf (job .reader) (now behind) ≡ StreamTail.Index index ⌝ }
+    ensures { λ r. ⌜ LineAndWords (lineTo (StreamTail.Index index) job (now (profile .entry)) (now (words .entry)) (now (behind .entry))) (now (line .entry)) (now (line .exit)) (now (words .exit)) r ⌝ }
+{
+    let mut out = [0u64; 37];
+    let status = ask(profile, job, behind, index, words, &mut out);
+    let told = put_answer(line, job.reader, status, &out);
+    let shown = put_lent(line, told, several(job.reader), words);
+    lines::put(line, shown, b"\n")
+}
+
+// Puts the line of a job of the evaluation: the lookup table is read on the crate walk, and then the pixel evaluated.
+fn answer_pixel(
+    profile: &[u8],
+    job: StreamJob,
+    behind: &[u8],
+    coordinates: u8,
+    room: u16,
+    words: &mut [u32],
+    line: &mut [u8],
+) -> usize
+    requires { ⌜ tailOf (job .reader) (now behind) ≡ StreamTail.Pixel coordinates room ⌝ }
+    ensures { λ r. ⌜ LineAndWords (lineTo (StreamTail.Pixel coordinates room) job (now (profile .entry)) (now (words .entry)) (now (behind .entry))) (now (line .entry)) (now (line .exit)) (now (words .exit)) r ⌝ }
+{
+    let mut table = [0u64; 37];
+    let status = exports::khalyksor_read_lut_tag(
+        profile,
+        job.offset,
+        job.size,
+        job.entries,
+        job.points,
+        0,
+        words,
+        &mut table,
+    );
+    if status != VALUE {
+        let told = put_answer(line, EVALUATION, status, &table);
+        return lines::put(line, told, b"\n");
+    }
+    let size = fields::counted_size(job.size);
+    let place = fields::locate(profile, Entry(job.offset), InTag(size as u64));
+    let Place::In { from, to } = place else {
+        return 0;
+    };
+    let mut buffer = [0u16; 512];
+    let told = pixel::put_pixel_behind(
+        &profile[from..to],
+        &table,
+        behind,
+        coordinates as usize,
+        &mut buffer[..room as usize],
+        line,
+    );
+    lines::put(line, told, b"\n")
+}
+
 // Puts the line of a job at the start of `line`, as far as there is room, and answers where it ends. The job's profile and the bytes
-// behind it are read, and the words are those lent to its reader. A job that names no reader, or has too few bytes behind its profile, has
-// no line: then the answer is 0.
+// behind it are read, and the words are those lent to its reader. A job that names no reader, has too few bytes behind its profile, or a buffer past
+// its bound, has no line: then the answer is 0.
 pub fn answer_job(
     profile: &[u8],
     job: StreamJob,
@@ -243,12 +310,11 @@ pub fn answer_job(
 {
     mark(words);
     let tail = answers_jobs::read_tail(job.reader, behind);
-    let StreamTail::Index(index) = tail else {
-        return 0;
-    };
-    let mut out = [0u64; 37];
-    let status = ask(profile, job, behind, index, words, &mut out);
-    let told = put_answer(line, job.reader, status, &out);
-    let shown = put_lent(line, told, several(job.reader), words);
-    lines::put(line, shown, b"\n")
+    match tail {
+        StreamTail::Index(index) => answer_reader(profile, job, behind, index, words, line),
+        StreamTail::Pixel { coordinates, room } => {
+            answer_pixel(profile, job, behind, coordinates, room, words, line)
+        }
+        StreamTail::BadJob => 0,
+    }
 }

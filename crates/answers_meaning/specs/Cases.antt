@@ -1,4 +1,4 @@
--- Jobs of `answers`, and their lines: of each reader one with a value, and of each other kind of answer one.
+-- Jobs of `answers`, and their lines: of each reader one with a value, and of each other kind of answer one; and some that are no jobs.
 use Prim.Native.Nat.{ℕ, _+_, _-_}
 use mathlib.Core.Path.{_≡_}
 use mathlib.Core.List.{List, [], _∷_, _++_, map}
@@ -21,6 +21,10 @@ pub data Case : Type 0 where
   prints : ℕ → List ℕ → ℕ → ℕ → List ℕ → List ℤ → Case
   -- of a reader that is lent so many words: profile and size, letters and numbers, and the words after the call
   leaves : ℕ → List ℕ → ℕ → ℕ → List ℕ → List ℤ → List ℕ → Case
+  -- of the evaluation: profile and size, the bytes behind it, letters and numbers, and the buffer after the call
+  evaluates : List ℕ → ℕ → List ℕ → List ℕ → List ℤ → List ℕ → Case
+  -- the number of a reader and the bytes behind a profile that are no job's
+  bad : ℕ → List ℕ → Case
 
 -- a job under the house defaults
 abbrev pub jobFor : ℕ → List ℕ → ℕ → ℕ → ℕ → StreamJob
@@ -39,6 +43,10 @@ Holds (prints reader profile offset size letters zs) =
 Holds (leaves reader profile size n letters zs after) =
     lineOf (jobFor reader profile 0 size n) profile [] n
     ≡ record { text = letters ++ printed zs ++ (0x20 ∷ 0x7c ∷ printed (map pos after)) ++ (0x0a ∷ []); wordsAfter = after }
+Holds (evaluates profile size behind letters zs buffer) =
+    lineOf (jobFor 14 profile 0 size 0) profile behind 0
+    ≡ record { text = letters ++ printed zs ++ (0x20 ∷ 0x7c ∷ printed (map pos buffer)) ++ (0x0a ∷ []); wordsAfter = [] }
+Holds (bad reader behind) = lineOf (jobFor reader [] 0 0 0) [] behind 0 .text ≡ []
 
 -- a `chad` tag whose first number is -1 and whose others are 0
 abbrev pub chadTag : List ℕ
@@ -59,6 +67,17 @@ clutTag = headOf 0x42 0x41 1 2 0 0 0 32 0 ++ gridWith 3 2 ++ (1 ∷ 0 ∷ 0 ∷ 
 -- one coordinate, and output channel 1
 abbrev pub indexBytes : ℕ → List ℕ
 indexBytes x = 1 ∷ x ∷ (replicate 15 0 ++ (1 ∷ []))
+
+-- an `mAB ` tag of two inputs and one output that has only a colour table, of two points by three and two bytes an entry
+abbrev pub planeTag : List ℕ
+planeTag =
+    headOf 0x41 0x42 2 1 0 0 0 32 0
+    ++ gridWith 2 3
+    ++ (2 ∷ 0 ∷ 0 ∷ 0 ∷ 1 ∷ 0 ∷ 2 ∷ 0 ∷ 3 ∷ 0 ∷ 16 ∷ 0 ∷ 32 ∷ 0 ∷ 48 ∷ 0 ∷ [])
+
+-- so many coordinates, the first two by their bytes, and a buffer of so many numbers
+abbrev pub pixelBytes : ℕ → ℕ → ℕ → ℕ → ℕ → ℕ → List ℕ
+pixelBytes n a b c d room = n ∷ a ∷ b ∷ c ∷ d ∷ (replicate 12 0 ++ (0 ∷ room ∷ []))
 
 -- the letters of the kinds of answer, and of the types
 abbrev pub valueLetters : List ℕ
@@ -158,4 +177,19 @@ cases =
     prints 9 xyz 4 11 defaultLetters [] ∷
     prints 10 cicp 4 12 valueLetters (map pos (1 ∷ 2 ∷ 3 ∷ 4 ∷ [])) ∷
     prints 10 cicp 4 11 absentLetters [] ∷
+    -- 14, the evaluation: half-way between the two points of `mftTag`, with a number of the buffer behind the results; at the last point of
+    -- `clutTag`, whose entries are widened; between points of both dimensions of `planeTag`
+    evaluates mftTag 80 (pixelBytes 1 0x80 0 0 0 4) valueLetters (pos 3 ∷ pos 3 ∷ pos 4 ∷ pos 5 ∷ []) (3 ∷ 4 ∷ 5 ∷ 0xA503 ∷ []) ∷
+    evaluates clutTag 58 (pixelBytes 1 0xFF 0xFF 0 0 2) valueLetters (pos 2 ∷ pos 1285 ∷ pos 1542 ∷ []) (1285 ∷ 1542 ∷ []) ∷
+    evaluates planeTag 64 (pixelBytes 2 0x40 0 0xC0 0 1) valueLetters (pos 1 ∷ pos 3040 ∷ []) (3040 ∷ []) ∷
+    -- too few numbers in the buffer; a coordinate too many, and nine, which count as eight; no colour table
+    evaluates mftTag 80 (pixelBytes 1 0x80 0 0 0 2) refusedLetters (pos 14 ∷ []) (0xA500 ∷ 0xA501 ∷ []) ∷
+    evaluates mftTag 80 (pixelBytes 2 0x80 0 0 0 0) refusedLetters (pos 19 ∷ []) [] ∷
+    evaluates mftTag 80 (pixelBytes 9 0x80 0 0 0 1) refusedLetters (pos 19 ∷ []) (0xA500 ∷ []) ∷
+    evaluates (bare 0x42 0x41 3 1) 48 (pixelBytes 3 0 0 0 0 1) refusedLetters (pos 19 ∷ []) (0xA500 ∷ []) ∷
+    -- "refused 1", of a table past the profile; a longer buffer than is allowed, and a job cut short
+    says 14 [] 80 (pixelBytes 1 0 0 0 0 1) (0x72 ∷ 0x65 ∷ 0x66 ∷ 0x75 ∷ 0x73 ∷ 0x65 ∷ 0x64 ∷ 0x20 ∷ 0x31 ∷ 0x0a ∷ []) ∷
+    bad 14 (1 ∷ (replicate 16 0 ++ (2 ∷ 1 ∷ []))) ∷
+    bad 14 (replicate 18 0) ∷
+    bad 15 (replicate 19 0) ∷
     []

@@ -1,3 +1,4 @@
 pub mod Text
+pub mod Pixel
 pub mod Line
 pub mod Cases

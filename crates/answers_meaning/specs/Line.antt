@@ -25,6 +25,7 @@ use Rattle.answers_jobs.specs.declared.StreamIndex.{StreamIndex}
 use Rattle.answers_jobs.specs.declared.StreamJob.{StreamJob}
 use Rattle.answers_jobs.specs.declared.StreamTail.{StreamTail}
 use Rattle.answers_meaning.specs.Text.{exportedText, lentText}
+use Rattle.answers_meaning.specs.Pixel.{pixelLine}
 
 -- a job has at most so many words lent, and a line at most so many bytes: the program's buffer
 abbrev pub mostWords : ℕ
@@ -122,6 +123,11 @@ lineTo (StreamTail.Index index) job profile words behind =
           ++ cond (several (job .reader)) (lentText after) []
           ++ (0x0a ∷ []);
       wordsAfter = after;
+    }
+lineTo (StreamTail.Pixel n room) job profile words behind =
+    record {
+      text = pixelLine (lutExportedOf job profile words Crate) (countedTag profile (job .offset) (job .size)) behind n room ++ (0x0a ∷ []);
+      wordsAfter = lutWordsAfter job profile words Crate;
     }
 lineTo StreamTail.BadJob job profile words behind = record { text = []; wordsAfter = words }
 

@@ -8,7 +8,7 @@ use lib.ListN.{length, getD}
 use lib.Seq.{sets}
 use Rattle.export_words.specs.declared.Layout.{Layout}
 
--- 0 value, 1 to 17 the number of a refusal, 100 absent, 101 default, 102 no room
+-- 0 value, 1 to 17 and 19 the number of a refusal, 100 absent, 101 default, 102 no room
 pub record Exported : Type 0 where
   pub status : ℕ
   pub words : List ℕ

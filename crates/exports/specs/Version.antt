@@ -1,5 +1,5 @@
--- The version of the boundary: 2.0.
+-- The version of the boundary: 2.1.
 use Prim.Native.Nat.{ℕ, _+_, _*_}
 
 abbrev pub version : ℕ
-version = 2 * 0x1_0000 + 0
+version = 2 * 0x1_0000 + 1

@@ -4,7 +4,7 @@ ghost use Rattle.exports.specs.Version.{version};
 
 const MAJOR: u32 = 2;
 
-const MINOR: u32 = 0;
+const MINOR: u32 = 1;
 
 // MAJOR in the upper sixteen bits, and MINOR in the lower: a program holds it against the header that it was compiled with.
 #[no_mangle]

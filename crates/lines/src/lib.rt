@@ -96,3 +96,16 @@ pub fn put_numbers(out: &mut [u8], at: usize, words: &[u32]) -> usize
     }
     end
 }
+
+// The same of numbers of two bytes.
+pub fn put_short_numbers(out: &mut [u8], at: usize, shorts: &[u16]) -> usize
+    ensures { λ r. ⌜ Wrote (now (out .entry)) (now (out .exit)) at r (numbers (now (shorts .entry))) ⌝ }
+{
+    let mut end = at;
+    let mut i = 0;
+    while i < shorts.len() {
+        end = put_number(out, end, b' ', shorts[i] as u64);
+        i += 1;
+    }
+    end
+}

@@ -1,8 +1,7 @@
--- `answers_lines::answer_job` meets its contract: a line ends, and a bad job has none.
+-- `answers_lines::answer_job` meets its contract: by what stands behind the profile, and a bad job has no line.
 -- Assumes nothing.
-use mathlib.Core.Path.{sym}
 use borrow.Author.Needs.{needs}
-use Rattle.answers_lines.proofs.Laws.{told-length, asks, no-line, line-ends}
+use Rattle.answers_lines.proofs.Laws.{asks, asks-pixel, no-line, line-of-reader, line-of-pixel}
 use Rattle.answers_lines.proofs.answer_job.Statement.{statement}
 use Rattle.answers_lines.proofs.answer_job.Tie as tie
 
@@ -13,16 +12,15 @@ answer-job-spec =
     (λ c κs. search needs)
     (λ c κs. search needs)
     (λ c. search needs)
-    (λ c. search needs)
-    (λ c. search needs)
-    (λ c. search (needs, no-line))
     (λ c κs. search (needs, asks))
-    (λ c. sym (told-length (c .before .before .before .before .ask .ensures)))
-    (λ c κs. search (needs, told-length))
-    (λ c κs. search needs)
-    (λ c κs. search needs)
     (λ c. search needs)
-    (λ c κs. search needs)
+    (λ c κs. search (needs, asks-pixel))
     (λ c. search needs)
     (λ c. search needs)
-    (λ c. line-ends (c .before .before .before .before .before .before .before .before .before .before .before .before .before .before .before .before .before .before .before .before .before .before .before .before .before .before .before .before .before .before .before .before .before .args .job) (c .before .before .before .before .before .before .before .before .before .before .before .before .before .before .before .before .before .before .before .before .before .before .before .before .before .before .before .before .before .before .before .before .before .args .profile .now) (c .before .before .before .before .before .before .before .before .before .before .before .before .before .before .before .before .before .before .before .before .before .before .before .before .before .before .before .before .before .before .before .before .before .args .behind .now) _ (c .before .before .before .before .before .before .before .before .before .before .before .before .before .before .before .before .before .before .before .before .before .before .before .before .before .before .before .mark .ensures) (c .before .before .before .before .before .before .before .before .before .before .before .before .before .before .before .before .before .before .before .before .before .before .before .before .read-tail .ensures) (c .before .before .before .before .before .before .before .before .before .before .before .before .before .before .before .before .before .before .before .before .before .before .tail .given .1) (c .before .before .before .before .before .before .before .before .before .before .before .before .before .before .before .before .before .before .ask .ensures) (c .before .before .before .before .before .before .before .before .before .several .ensures) (c .before .before .before .before .before .before .before .before .before .before .before .before .before .put-answer .ensures) (c .before .before .before .before .before .before .before .put-lent .ensures) (c .before .before .put .ensures)))
+    (λ c. search needs)
+    (λ c. search (needs, line-of-reader))
+    (λ c. search needs)
+    (λ c. search needs)
+    (λ c. search (needs, line-of-pixel))
+    (λ c. search needs)
+    (λ c. search (needs, no-line)))
