@@ -5,7 +5,7 @@ import ctypes
 import re
 import subprocess
 import tomllib
-from collections.abc import Iterator
+from collections.abc import Iterable, Iterator
 from dataclasses import dataclass
 from pathlib import Path
 
@@ -19,7 +19,7 @@ NUMBERS: dict[str, int] = {name: number for name, (number, _) in TABLE["numbers"
 ANSWERS: dict[str, dict] = {answer["prefix"]: answer for answer in TABLE["answers"]}
 FUNCTIONS: dict[str, dict] = {function["name"]: function for function in TABLE["functions"]}
 
-C_NUMBERS = {"u8": ctypes.c_uint8, "u32": ctypes.c_uint32, "u64": ctypes.c_uint64}
+C_NUMBERS = {"u8": ctypes.c_uint8, "u16": ctypes.c_uint16, "u32": ctypes.c_uint32, "u64": ctypes.c_uint64}
 SLICE = re.compile(r"&(?:mut )?\[(\w+)\]")
 
 
@@ -59,6 +59,12 @@ def library() -> ctypes.CDLL:
     return ctypes.CDLL(str(Path(made.stdout.splitlines()[-1]) / "lib/libkhalyksor.so"))
 
 
+def short_numbers(numbers: Iterable[int]) -> ctypes.Array:
+    """Numbers of 16 bits, as coordinates, or to be lent as results."""
+    numbers = tuple(numbers)
+    return (ctypes.c_uint16 * len(numbers))(*numbers)
+
+
 def lent(words: int) -> ctypes.Array:
     """So many words of 32 bits, to be lent as slots."""
     return (ctypes.c_uint32 * words)()
@@ -66,7 +72,7 @@ def lent(words: int) -> ctypes.Array:
 
 def call(loaded: ctypes.CDLL, name: str, **values: int | bytes | ctypes.Array) -> tuple[int, ctypes.Array]:
     """Calls a function that has a status: gives it, and `out`, which has as many words as the function asks for."""
-    out = (ctypes.c_uint64 * words_in(fields_of(FUNCTIONS[name]["most"])))()
+    out = (ctypes.c_uint64 * (words_in(fields_of(FUNCTIONS[name]["most"])) if "most" in FUNCTIONS[name] else 0))()
     arguments = []
     for parameter, kind in FUNCTIONS[name]["parameters"].items():
         value = out if parameter == "out" else values[parameter]
@@ -144,6 +150,7 @@ READERS = {
     "lut-book": (LUT, "BOOK"),
     "trc-book": (TRC, "BOOK"),
     "entry": (LUT, "CRATE"),
+    "evaluate": (LUT, "CRATE"),
 }
 MLUC_RECORD_BYTES = 12  # in the profile
 MOST_COORDINATES = next(field.count for field in fields_of("MAB") if field.name == "GRID")
@@ -151,7 +158,7 @@ MOST_COORDINATES = next(field.count for field in fields_of("MAB") if field.name 
 
 @dataclass(frozen=True, slots=True)
 class Question:
-    """What one call of one reader asks for. Only the reader `entry` has an index and a channel."""
+    """What one call of one reader asks for. Only the reader `entry` has an index and a channel, and only `evaluate` coordinates."""
 
     reader: str
     profile: bytes
@@ -161,6 +168,18 @@ class Question:
     points: int
     index: bytes = b""
     channel: int = 0
+    coordinates: tuple[int, ...] = ()
+
+
+def colour(tag: bytes, lut: ctypes.Array, coordinates: tuple[int, ...], library: ctypes.CDLL) -> str:
+    """The line of an evaluation, with a result for each output."""
+    (outputs,) = (lut[field.place] for field in fields_of("LUT") if field.name == "OUTPUTS")
+    results = short_numbers([0] * outputs)
+    function = "khalyksor_evaluate"
+    status, out = call(library, function, tag=tag, lut=lut, coordinates=short_numbers(coordinates), results=results)
+    if status == STATUSES["VALUE"]:
+        return " ".join(map(str, ("value", outputs, *results)))
+    return line(function, status, out)
 
 
 def answer(asked: Question, library: ctypes.CDLL) -> list[str]:
@@ -182,8 +201,10 @@ def answer(asked: Question, library: ctypes.CDLL) -> list[str]:
     }
     status, out = call(library, function, **given)
     value = status == STATUSES["VALUE"]
+    tag = asked.profile[asked.offset : asked.offset + asked.size]
+    if value and asked.reader == "evaluate":
+        return [colour(tag, out, asked.coordinates, library)]
     if value and asked.reader == "entry":
-        tag = asked.profile[asked.offset : asked.offset + asked.size]
         function, lut = "khalyksor_entry_at", out
         status, out = call(library, function, tag=tag, lut=lut, index=asked.index, channel=asked.channel)
         value = False

@@ -2,7 +2,7 @@
  * word by its name there, in the order of docs/SCOPE.md. So its lines are those of `answers` only if every word stands where the header says.
  *
  * Each job is also called with an `out` one word too short, and `out` has words behind those of the answer: status 1 and a message if what must
- * stay does not stay.
+ * stay does not stay. An evaluation is also called as a row, of its pixel once and twice.
  */
 #include <inttypes.h>
 #include <stdio.h>
@@ -11,7 +11,7 @@
 
 #include "khalyksor.h"
 
-enum { HEAD = 33, BEHIND = 18, MOST_BYTES = 1048576, MOST_WORDS = 8192, SPARE = 3 };
+enum { HEAD = 33, BEHIND = 18, BEHIND_PIXEL = 19, MOST_BYTES = 1048576, MOST_WORDS = 8192, MOST_ROOM = 512, MOST_COORDINATES = 8, SPARE = 3 };
 
 static const uint64_t UNTOUCHED = 0xEEEEEEEEEEEEEEEEu;
 
@@ -19,11 +19,14 @@ static uint8_t profile[MOST_BYTES];
 static uint32_t words[MOST_WORDS];
 static uint64_t lut[KHALYKSOR_LUT_WORDS];
 static uint64_t out[KHALYKSOR_LUT_WORDS + SPARE];
+static uint16_t buffer[MOST_ROOM + SPARE];
+static uint16_t row[2 * MOST_ROOM + SPARE];
 
 typedef struct {
     uint8_t reader, coordinates, channel;
     uint8_t index[16];
-    uint32_t offset, size, lent, length;
+    uint16_t pixel[2 * MOST_COORDINATES];
+    uint32_t offset, size, lent, length, room;
     uint64_t limit, points;
 } Job;
 
@@ -402,15 +405,89 @@ static void answer(const Job *job)
     printf("\n");
 }
 
+/* ---- an evaluation */
+
+static void number(uint16_t *numbers, uint32_t count)
+{
+    uint32_t i;
+    for (i = 0; i < count; i++)
+        numbers[i] = (uint16_t)(0xA500u + i);
+}
+
+static void stays_numbered(const Job *job, const uint16_t *numbers, uint32_t from, uint32_t end, const char *what)
+{
+    for (; from < end; from++)
+        if (numbers[from] != (uint16_t)(0xA500u + from))
+            fail(job, what);
+}
+
+/* The pixel as a row, and twice in one: the same results, one behind the other. Coordinates that are no pixel's may be some of a row, so those are left out. */
+static void same_in_a_row(const Job *job, uint32_t status, uint32_t results)
+{
+    uint32_t times, i;
+    if (status != KHALYKSOR_VALUE && job->coordinates != lut[KHALYKSOR_LUT_INPUTS])
+        return;
+    for (times = 1; times <= 2; times++) {
+        uint32_t got;
+        number(row, 2 * MOST_ROOM + SPARE);
+        got = khalyksor_evaluate_row(profile + job->offset, job->size, lut, KHALYKSOR_LUT_WORDS, job->pixel, times * (uint64_t)job->coordinates, row,
+                                     times * (uint64_t)job->room);
+        if (got != status)
+            fail(job, "a row has another status than its pixel");
+        for (i = 0; i < times * results; i++)
+            if (row[i] != buffer[i % results])
+                fail(job, "a row has other results than its pixel");
+        stays_numbered(job, row, times * results, 2 * MOST_ROOM + SPARE, "a number behind the results of a row was written");
+    }
+}
+
+static void answer_pixel(const Job *job)
+{
+    uint32_t status, results = 0, i;
+    mark(job);
+    status = khalyksor_read_lut_tag(profile, job->length, job->offset, job->size, job->limit, job->points, KHALYKSOR_WALK_CRATE, words, job->lent, lut,
+                                    KHALYKSOR_LUT_WORDS);
+    if (status == KHALYKSOR_ABSENT) {
+        printf("absent\n");
+        return;
+    }
+    if (status != KHALYKSOR_VALUE) {
+        printf("refused %u\n", (unsigned)status);
+        return;
+    }
+    number(buffer, MOST_ROOM + SPARE);
+    if (khalyksor_evaluate(profile + job->offset, job->size, lut, KHALYKSOR_LUT_WORDS - 1, job->pixel, job->coordinates, buffer, job->room) != KHALYKSOR_NO_ROOM
+        || khalyksor_evaluate_row(profile + job->offset, job->size, lut, KHALYKSOR_LUT_WORDS - 1, job->pixel, job->coordinates, buffer, job->room)
+               != KHALYKSOR_NO_ROOM)
+        fail(job, "a lookup table one word too short was taken");
+    stays_numbered(job, buffer, 0, MOST_ROOM + SPARE, "a number was written without the words of a lookup table");
+    status = khalyksor_evaluate(profile + job->offset, job->size, lut, KHALYKSOR_LUT_WORDS, job->pixel, job->coordinates, buffer, job->room);
+    if (status == KHALYKSOR_VALUE) {
+        results = (uint32_t)lut[KHALYKSOR_LUT_OUTPUTS];
+        printf("value %u", (unsigned)results);
+        for (i = 0; i < results; i++)
+            put(buffer[i]);
+    } else if (status == KHALYKSOR_REFUSED_NO_COLOUR_TABLE || status == KHALYKSOR_REFUSED_TOO_FEW_SLOTS)
+        printf("refused %u", (unsigned)status);
+    else
+        fail(job, "an evaluation has a status that is none of its own");
+    stays_numbered(job, buffer, results, MOST_ROOM + SPARE, "a number behind the results was written");
+    printf(" |");
+    for (i = 0; i < job->room; i++)
+        put(buffer[i]);
+    printf("\n");
+    same_in_a_row(job, status, results);
+}
+
 /* Reads a job: 1 if there was one, 0 at the end, -1 if it is none. */
 static int read_job(Job *job)
 {
-    uint8_t head[HEAD], behind[BEHIND];
+    uint8_t head[HEAD], behind[BEHIND_PIXEL];
     size_t n = fread(head, 1, HEAD, stdin);
     memset(job, 0, sizeof *job);
     if (n == 0)
         return 0;
-    if (n < HEAD || head[0] < 1 || head[0] > 13)
+    if (n < HEAD || head[0] < 1 || head[0] > 14)
         return -1;
     job->reader = head[0];
     job->offset = (uint32_t)number_at(head + 1, 4);
@@ -428,6 +505,19 @@ static int read_job(Job *job)
         memcpy(job->index, behind + 1, sizeof job->index);
         job->channel = behind[17];
     }
+    if (job->reader == 14) {
+        uint32_t i;
+        if (fread(behind, 1, BEHIND_PIXEL, stdin) < BEHIND_PIXEL)
+            return -1;
+        job->coordinates = behind[0];
+        if (job->coordinates > MOST_COORDINATES)
+            job->coordinates = MOST_COORDINATES;
+        for (i = 0; i < job->coordinates; i++)
+            job->pixel[i] = job->pixel[i + job->coordinates] = (uint16_t)number_at(behind + 1 + 2 * i, 2);
+        job->room = (uint32_t)number_at(behind + 17, 2);
+        if (job->room > MOST_ROOM)
+            return -1;
+    }
     return 1;
 }
 
@@ -440,7 +530,10 @@ int main(void)
         return EXIT_FAILURE;
     }
     while ((found = read_job(&job)) > 0)
-        answer(&job);
+        if (job.reader == 14)
+            answer_pixel(&job);
+        else
+            answer(&job);
     if (found < 0)
         printf("bad job\n");
     return fflush(stdout) == 0 ? EXIT_SUCCESS : EXIT_FAILURE;

@@ -6,9 +6,11 @@ from dataclasses import dataclass
 
 # reader, offset, size, limit of curve entries, limit of grid points, words lent, length of the profile
 HEADER = struct.Struct(">BIIQQII")
-LAST_READER = 13
+LAST_READER = 14
 TABLE_VIEW = 13
-TABLE_VIEW_TAIL = 18
+EVALUATION = 14
+BYTES_BEHIND = {TABLE_VIEW: 18, EVALUATION: 19}  # the profile
+LONGEST_BUFFER = 512
 MOST_WORDS = 8_192
 LONGEST_PROFILE = 1_048_576
 
@@ -23,7 +25,7 @@ class BadJob(ValueError):
 
 @dataclass(frozen=True, slots=True)
 class Job:
-    """One call of one reader. Only a table view has a `view`: the bytes behind its profile."""
+    """One call of one reader. Only a table view and an evaluation have bytes behind the profile."""
 
     reader: int
     offset: int
@@ -32,13 +34,13 @@ class Job:
     curve_limit: int = HOUSE_CURVE_LIMIT
     grid_limit: int = HOUSE_GRID_LIMIT
     words: int = 0
-    view: bytes = b""
+    behind: bytes = b""
 
     def encode(self) -> bytes:
         head = HEADER.pack(
             self.reader, self.offset, self.size, self.curve_limit, self.grid_limit, self.words, len(self.profile)
         )
-        return head + self.profile + self.view
+        return head + self.profile + self.behind
 
 
 def decode(stream: bytes) -> Iterator[Job]:
@@ -59,5 +61,7 @@ def decode(stream: bytes) -> Iterator[Job]:
         if words > MOST_WORDS or length > LONGEST_PROFILE:
             raise BadJob(f"{words} words, {length} bytes")
         profile = take(length)
-        view = take(TABLE_VIEW_TAIL) if reader == TABLE_VIEW else b""
-        yield Job(reader, offset, size, profile, curve_limit, grid_limit, words, view)
+        behind = take(BYTES_BEHIND.get(reader, 0))
+        if reader == EVALUATION and int.from_bytes(behind[17:]) > LONGEST_BUFFER:
+            raise BadJob(f"a buffer of {int.from_bytes(behind[17:])}")
+        yield Job(reader, offset, size, profile, curve_limit, grid_limit, words, behind)

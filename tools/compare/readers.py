@@ -11,7 +11,7 @@ stored()                       the hand-picked cases: pairs of a comment and a j
 from_tag(profile, start, size) the jobs to make of a real profile's tag; none if the family has no use for its type
 """
 
-from compare import curve, entry, lut, small, text
+from compare import curve, entry, evaluate, lut, small, text
 
-FAMILIES = {"curve": curve, "lut": lut, "text": text, **small.FAMILIES, "entry": entry}
+FAMILIES = {"curve": curve, "lut": lut, "text": text, **small.FAMILIES, "entry": entry, "evaluate": evaluate}
 FAMILY_OF_READER = {reader: family for family in FAMILIES.values() for reader in family.READERS}

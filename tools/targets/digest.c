@@ -22,6 +22,8 @@
 #define SLOT_WORDS (64 * KHALYKSOR_CURVE_RECORD_WORDS)
 #define SLOT_BEHIND 4
 #define PROFILE_BYTES 12288
+#define MOST_PIXELS 5
+#define PIXEL_RESULTS 16
 
 /* -- random numbers: splitmix64 */
 
@@ -178,7 +180,7 @@ static const uint8_t *profile_or_null(void) { return length == 0 ? NULL : profil
 
 /* -- what came, by function */
 
-enum { LUT, TRC, STRING, CHAD, TECH, DATE, MEAS, VIEW, XYZ, CICP, ENTRY, RANGE, VERSION, FUNCTIONS };
+enum { LUT, TRC, STRING, CHAD, TECH, DATE, MEAS, VIEW, XYZ, CICP, ENTRY, PIXEL, ROW, RANGE, VERSION, FUNCTIONS };
 
 #define STATUSES 104 /* 103 stands for any that no function should give */
 
@@ -202,6 +204,8 @@ static struct tally tallies[FUNCTIONS] = {
     {"khalyksor_read_xyz_tag", 0, 0, {0}, {0, 1, 2, 101, 102, 255}},
     {"khalyksor_read_cicp_tag", 0, 0, {0}, {0, 1, 100, 102, 255}},
     {"khalyksor_entry_at", 0, 0, {0}, {0, 100, 102, 255}},
+    {"khalyksor_evaluate", 0, 0, {0}, {0, 14, 19, 102, 255}},
+    {"khalyksor_evaluate_row", 0, 0, {0}, {0, 14, 19, 102, 255}},
     {"khalyksor_full_range", 0, 0, {0}, {0, 1, 255}},
     {"khalyksor_version", 0, 0, {0}, {255}},
 };
@@ -437,26 +441,29 @@ static void call_small(int function, small_reader *reader, const char *type, uin
     take(function, reader(profile_or_null(), length, offset, size, out_or_null(), out_words));
 }
 
-/* An entry of a colour table that was read before, at a grid index that is mostly one of the table; at times with other words in the place of the
-   table's, or too few of them. */
-static void call_entry(void) {
-    uint64_t lut[OUT_WORDS];
-    uint64_t lut_words = OUT_WORDS;
-    uint8_t index[20], channel;
-    uint64_t coordinates, tag_length;
-    uint32_t i, status, inputs, outputs;
-    const uint8_t *tag;
+/* a colour table that was read: its tag and its words */
+static uint64_t lut[OUT_WORDS];
+static uint64_t lut_words;
+static const uint8_t *tag;
+static uint64_t tag_length;
+static uint32_t inputs, outputs;
+
+static void read_table(void) {
+    uint32_t i, status;
     for (i = 0; i < OUT_WORDS; i++) lut[i] = UINT64_C(0xa5a5a5a500000000) + i;
     do {
         finish_tag(one_in(2) ? mft_tag() : abm_tag());
         status = khalyksor_read_lut_tag(profile, length, offset, size, KHALYKSOR_HOUSE_LIMIT, KHALYKSOR_HOUSE_POINTS, below(2), slots, SLOT_WORDS, lut, OUT_WORDS);
     } while (status != KHALYKSOR_VALUE);
+    lut_words = OUT_WORDS;
     tag = profile + offset;
     tag_length = size;
     inputs = (uint32_t)lut[KHALYKSOR_LUT_INPUTS];
     outputs = (uint32_t)lut[KHALYKSOR_LUT_OUTPUTS];
-    for (i = 0; i < sizeof index; i++) index[i] = (uint8_t)(one_in(64) ? below(256) : one_in(16) ? below(4) : below(2));
-    coordinates = one_in(16) ? below(sizeof index + 1) : inputs < sizeof index ? inputs : sizeof index;
+}
+
+/* at times other words in the place of the table's, too few of them, or a shorter tag */
+static void change_table(void) {
     if (one_in(8)) {
         static const uint8_t words[] = {0, 1, 2, 3, 17, 18, 31, 32, 33};
         uint32_t word = one_in(4) ? below(OUT_WORDS) : words[below(sizeof words)];
@@ -469,9 +476,44 @@ static void call_entry(void) {
     }
     if (one_in(16)) lut_words = below(OUT_WORDS);
     if (one_in(16)) tag_length = below((uint32_t)tag_length + 1);
+}
+
+/* An entry at a grid index that is mostly one of the table. */
+static void call_entry(void) {
+    uint8_t index[20], channel;
+    uint64_t coordinates;
+    uint32_t i;
+    read_table();
+    for (i = 0; i < sizeof index; i++) index[i] = (uint8_t)(one_in(64) ? below(256) : one_in(16) ? below(4) : below(2));
+    coordinates = one_in(16) ? below(sizeof index + 1) : inputs < sizeof index ? inputs : sizeof index;
+    change_table();
     channel = (uint8_t)(one_in(16) ? below(256) : below(outputs > 0 ? outputs : 1));
     lend_out(KHALYKSOR_ENTRY_WORDS);
     take(ENTRY, khalyksor_entry_at(tag, tag_length, lut, lut_words, index, coordinates, channel, out_or_null(), out_words));
+}
+
+/* A colour between the points of a table, or a row of them. */
+static void call_evaluate(int function) {
+    static uint16_t coordinates[6 * MOST_PIXELS], results[PIXEL_RESULTS * MOST_PIXELS + OUT_BEHIND];
+    uint64_t given, room;
+    uint32_t pixels = function == ROW ? below(MOST_PIXELS + 1) : 1, i, status;
+    struct tally *tally = &tallies[function];
+    do read_table(); /* mostly one that can be evaluated */
+    while (outputs > PIXEL_RESULTS || (inputs > 4 && !one_in(8)) || (lut[KHALYKSOR_MAB_ENTRY_SIZE] == 0 && !one_in(8)));
+    for (i = 0; i < 6 * MOST_PIXELS; i++) coordinates[i] = (uint16_t)(one_in(4) ? 65535 * below(2) : one_in(4) ? below(4) * 21845 : below(65536));
+    for (i = 0; i < PIXEL_RESULTS * MOST_PIXELS + OUT_BEHIND; i++) results[i] = (uint16_t)(0xa500 + i);
+    given = pixels * (uint64_t)(inputs < 6 ? inputs : 6);
+    if (one_in(16)) given = below(6 * MOST_PIXELS + 1);
+    room = pixels * (uint64_t)outputs;
+    if (one_in(4)) room = PIXEL_RESULTS * MOST_PIXELS;
+    if (one_in(8)) room = below(pixels * outputs + 1);
+    change_table();
+    if (function == ROW)
+        status = khalyksor_evaluate_row(tag, tag_length, lut, lut_words, given == 0 ? NULL : coordinates, given, room == 0 ? NULL : results, room);
+    else
+        status = khalyksor_evaluate(tag, tag_length, lut, lut_words, given == 0 ? NULL : coordinates, given, room == 0 ? NULL : results, room);
+    count(function, status);
+    for (i = 0; i < PIXEL_RESULTS * MOST_PIXELS + OUT_BEHIND; i++) add(tally, results[i]);
 }
 
 static void call_range(void) {
@@ -499,6 +541,8 @@ static void run(uint32_t rounds) {
         call_small(XYZ, khalyksor_read_xyz_tag, "XYZ ", 20, KHALYKSOR_XYZ_WORDS);
         call_small(CICP, khalyksor_read_cicp_tag, "cicp", 12, KHALYKSOR_CICP_WORDS);
         call_entry();
+        call_evaluate(PIXEL);
+        call_evaluate(ROW);
         call_range();
         call_version();
     }
