@@ -1,11 +1,12 @@
 // The jobs of `answers`, taken apart.
+#![tactic(auto)]
 ghost use Rattle.std.specs.Prelude.{◌≡◌};
 ghost use Rattle.answers_jobs.specs.Stream.{u64_at, head_of, bytes_behind, at_most_eight, pixel_in, tail_of};
 
 use fields::InTag;
 
 // A job of `answers`: which reader, where its tag stands, the limits, the words lent, and how long the profile behind it is.
-#[derive(Drop)]
+#[derive(Clone, Copy)]
 pub struct StreamJob {
     pub reader: u8,
     pub offset: u32,
@@ -16,7 +17,7 @@ pub struct StreamJob {
     pub length: u32,
 }
 
-#[derive(Drop)]
+#[derive(Clone, Copy)]
 pub enum StreamHead {
     Job(StreamJob),
     BadJob,
@@ -64,7 +65,7 @@ pub fn read_head(head: &[u8]) -> StreamHead
 
 // What a job of `answers` asks for behind its profile: nothing; the entry at a grid index, whose coordinates are so many bytes from byte 1
 // on, and at an output channel; an index of more than sixteen coordinates.
-#[derive(Drop)]
+#[derive(Clone, Copy)]
 pub enum StreamIndex {
     Nothing,
     At { coordinates: u8, channel: u8 },
@@ -73,7 +74,7 @@ pub enum StreamIndex {
 
 // What stands behind the profile: an index, if any; of an evaluation, so many coordinates of two bytes from byte 1 on, and how many numbers the lent
 // buffer has. A job that names no reader, has fewer bytes behind its profile than its reader asks, or a longer buffer than is allowed, is bad.
-#[derive(Drop)]
+#[derive(Clone, Copy)]
 pub enum StreamTail {
     Index(StreamIndex),
     Pixel { coordinates: u8, room: u16 },

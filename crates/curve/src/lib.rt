@@ -1,4 +1,5 @@
 // The tone curve, `curv` and `para`: read_trc_tag of moxcms.
+#![tactic(auto)]
 ghost use Rattle.std.specs.Prelude.{◌≡◌, cond, ◌&&◌, ◌+◌, ◌*◌, ◌≤◌, ltb, leb, eqb, length, get_or};
 ghost use Rattle.std.proofs.lemmas.List.Edits.{sets};
 ghost use Rattle.fields.specs.Bytes.{u32_at, words_at};
@@ -34,7 +35,7 @@ const ENTRY_BYTES: u64 = 2;
 const PARAMETER_BYTES: u64 = 4;
 
 // What a curve's type alone tells: the entries of a table, or the type of a function; or why the curve is refused.
-#[derive(Drop)]
+#[derive(Clone, Copy)]
 enum Found {
     Number(u32),
     Refused(Refusal),

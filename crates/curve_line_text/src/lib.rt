@@ -1,5 +1,6 @@
 // A job of `curve-line` taken apart, and the text that the program prints for it. The curve is asked of the exported function, as a user of
 // the library asks it, and the text is printed from the words that it tells.
+#![tactic(auto)]
 ghost use Rattle.std.specs.Prelude.{◌≡◌, length};
 ghost use Rattle.export_curve.specs.Layout.{curve_layout};
 ghost use Rattle.lines.specs.Text.{Wrote};
@@ -11,7 +12,7 @@ use export_words::{ABSENT, VALUE};
 use fields::InTag;
 
 // What a job of `curve-line` asks for: the tag of that size at that offset of the profile, which stands behind the head.
-#[derive(Drop)]
+#[derive(Clone, Copy)]
 pub enum CurveJob {
     Tag { offset: u32, size: u32 },
     BadJob,

@@ -1,5 +1,6 @@
 // What the tone-curve readers answer: the types here, what each call must answer in specs/, and what follows from it in proofs/. No
 // function: the code is in the crate `curve`.
+#![tactic(auto)]
 use fields::Refusal;
 
 // The words of a record.
@@ -13,7 +14,7 @@ pub const TABLE_KIND: u32 = 1;
 pub const PARA_KIND: u32 = 2;
 
 // How a run of curves steps over an empty one: by nothing, as the Rust does, or by its 12 bytes, as the standard lays it out.
-#[derive(Drop)]
+#[derive(Clone, Copy)]
 pub enum Walk {
     Crate,
     Book,
@@ -21,7 +22,7 @@ pub enum Walk {
 
 // A curve: its kind, where its data start in the tag, how many entries or parameters it
 // has, and the parameters by their names in the standard, each a signed word in two's complement, those unused 0.
-#[derive(Drop)]
+#[derive(Clone, Copy)]
 pub struct CurveRecord {
     pub kind: u32,
     pub start: u32,
@@ -36,7 +37,7 @@ pub struct CurveRecord {
 }
 
 // What a tone-curve reader answers. `consumed` is how far the walk goes on behind the curve.
-#[derive(Drop)]
+#[derive(Clone, Copy)]
 pub enum CurveAnswer {
     Value { curve: CurveRecord, consumed: u64 },
     Absent,
@@ -44,7 +45,7 @@ pub enum CurveAnswer {
 }
 
 // How far a walk goes on behind a curve, or why it stops there.
-#[derive(Drop)]
+#[derive(Clone, Copy)]
 pub enum Step {
     On(u64),
     Refused(Refusal),

@@ -1,1 +1,2 @@
 // No function: the three demands over all readers and evaluators, and the worked cases.
+#![tactic(auto)]

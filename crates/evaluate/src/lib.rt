@@ -1,5 +1,6 @@
 // Colours between the points of a colour table, in integers: of one pixel, and of a row of them. The table is judged once, then the corners around
 // each pixel are found, and blended (src/corners.rt). `evaluate_plain` has the same for one pixel as a function that calls itself.
+#![tactic(auto)]
 mod corners;
 
 ghost use Rattle.std.specs.Prelude.{◌≡◌, false, ◌+◌, ◌≤◌, ◌<◌, ◌^◌, length, drop};
@@ -15,7 +16,7 @@ pub use lut_view_meaning::TableNumbers;
 
 // A table that is judged: the points of each dimension, the last one first, 1 where there is none, with the bytes from one to the next; the bytes of
 // all entries, 0 where a dimension is below 2; where the entries start; and the bytes of one less 1.
-#[derive(Drop)]
+#[derive(Clone, Copy)]
 struct Shape {
     g0: u32,
     s0: usize,
@@ -31,7 +32,7 @@ struct Shape {
 }
 
 // A coordinate in its dimension: the bytes to its cell, from there to the upper neighbour, none where the rest is 0, and the rest.
-#[derive(Drop)]
+#[derive(Clone, Copy)]
 struct Axis {
     off: usize,
     up: usize,

@@ -1,4 +1,5 @@
 // The colour of one pixel by the plain rule, which calls itself dimension by dimension. It reads the table by the promises of the view alone.
+#![tactic(auto)]
 ghost use Rattle.std.specs.Prelude.{◌≡◌, ◌≤◌};
 ghost use Rattle.lut_view_meaning.specs.View.{grid_from, table_by};
 ghost use Rattle.evaluate_meaning.specs.Colour.{blend};
@@ -53,7 +54,7 @@ fn passes(tag: &[u8], numbers: TableNumbers) -> bool
 }
 
 // The point of a dimension at a position or below it, and the rest of the way to the next one.
-#[derive(Drop)]
+#[derive(Clone, Copy)]
 struct Cell {
     lower: u64,
     rest: u16,

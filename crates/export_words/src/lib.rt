@@ -1,4 +1,5 @@
 // What the exported functions tell: a status, and words in front of a lent `out`.
+#![tactic(auto)]
 ghost use Rattle.std.specs.Prelude.{◌%◌, ◌≡◌, get_or};
 ghost use Rattle.std.proofs.lemmas.List.Edits.{sets};
 
@@ -11,7 +12,7 @@ pub const DEFAULT: u32 = 101;
 
 // How the words of a value are laid out: how many they are, and that those from `from` up to `to` are signed, 32-bit words in two's
 // complement.
-#[derive(Drop)]
+#[derive(Clone, Copy)]
 pub struct Layout {
     pub words: usize,
     pub from: usize,

@@ -2,6 +2,7 @@
 // a refusal, 100 absent, 101 default, 102 where `out` or a `lut` has fewer words than the layout, and then nothing is read or written. The words of
 // a value stand in front of `out`, in the order that the comment over the function gives; the rest of it stays, and all of it on any other
 // status. Signed numbers are 32-bit words in two's complement, and a word of `out` has 64 bits.
+#![tactic(auto)]
 mod curves;
 mod evaluations;
 mod smalls;

@@ -1,5 +1,7 @@
 // What every reader stands on: big-endian numbers in a lent slice, the kinds of tag, the two kinds of offset, the refusals and
 // the house defaults. Carries over tag.rs and helpers.rs of moxcms.
+#![tactic(auto)]
+
 ghost use Rattle.std.specs.Prelude.{◌≡◌, ◌+◌, ◌≤◌, length, get_or};
 ghost use Rattle.fields.specs.Bytes.{number, u16_at, u32_at, words_at};
 ghost use Rattle.fields.specs.House.{house_limits};
@@ -17,22 +19,22 @@ pub const MAX_ALLOWED_TRC_SIZE: u64 = 4_096;
 pub const MAX_ALLOWED_CLUT_SIZE: u64 = 1_000_000;
 
 // Limits of curve entries and of grid points.
-#[derive(Drop)]
+#[derive(Clone, Copy)]
 pub struct Limits {
     pub entries: u64,
     pub points: u64,
 }
 
 // An offset from the profile's first byte, as the tag table has it.
-#[derive(Drop)]
+#[derive(Clone, Copy)]
 pub struct Entry(pub u32);
 
 // An offset from the tag's first byte. It has 64 bits, because the next multiple of 4 can pass 2^32.
-#[derive(Drop)]
+#[derive(Clone, Copy)]
 pub struct InTag(pub u64);
 
 // Why a call is refused; `refusal_number` of specs/ gives the number.
-#[derive(Drop)]
+#[derive(Clone, Copy)]
 pub enum Refusal {
     PastProfile,
     TagTooShort,
@@ -83,7 +85,7 @@ impl Refusal {
 }
 
 // The kind of a tag, by its type signature. The Rust's TagTypeDefinition.
-#[derive(Drop)]
+#[derive(Clone, Copy)]
 pub enum Kind {
     Curv,
     Para,
@@ -165,7 +167,7 @@ impl Kind {
 }
 
 // Where the bytes of a tag lie in the profile: from, and up to but not with.
-#[derive(Drop)]
+#[derive(Clone, Copy)]
 pub enum Place {
     In { from: usize, to: usize },
     Past,

@@ -54,7 +54,7 @@ const MATRIX_BYTES: u64 = 48;
 const BIAS_FROM: u64 = 36;
 
 // Where the runs A, M and B start, and how many curves each has: read once, for the checks and the writing.
-#[derive(Drop)]
+#[derive(Clone, Copy)]
 struct Runs {
     a: InTag,
     na: u32,

@@ -1,4 +1,5 @@
 // Lookup tables: read_lut_tag of moxcms.
+#![tactic(auto)]
 mod abm;
 mod answer;
 mod nested;

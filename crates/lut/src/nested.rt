@@ -13,7 +13,7 @@ use fields::{InTag, Refusal};
 // The bytes of a curve in front of its entries or parameters.
 const CURVE_HEAD: usize = 12;
 
-#[derive(Drop)]
+#[derive(Clone, Copy)]
 pub(crate) enum Verdict {
     Good,
     Refused(Refusal),

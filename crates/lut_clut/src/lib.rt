@@ -4,6 +4,7 @@
 //   16        the bytes of an entry, 1 or 2
 //   17 to 19  reserved, 0
 //   20 on     the entries
+#![tactic(auto)]
 ghost use Rattle.std.specs.Prelude.{◌≡◌, ◌*◌, min};
 ghost use Rattle.lut_clut_meaning.specs.Answer.{in_numbers, answer_of};
 ghost use Rattle.fields.specs.Some.{some};
@@ -23,7 +24,7 @@ const ENTRIES: u64 = 20;
 const MOST_ENTRIES: u32 = 10_000_000;
 
 // The points of a grid and the entries on it, or a product on the way that passes 32 bits.
-#[derive(Drop)]
+#[derive(Clone, Copy)]
 enum Counts {
     Fit { points: u32, entries: u32 },
     Over,

@@ -1,9 +1,10 @@
 // What the reader of the colour table of an `mAB ` or `mBA ` tag answers: the types here, what each call must answer in specs/, and what
 // follows from it in proofs/. No function: the code is in the crate `lut_clut`.
+#![tactic(auto)]
 use fields::{InTag, Refusal};
 
 // A table: its grid points, where its data start in the tag, their length in bytes, and the bytes of an entry.
-#[derive(Drop)]
+#[derive(Clone, Copy)]
 pub struct ColourTable {
     pub points: u32,
     pub start: InTag,
@@ -12,7 +13,7 @@ pub struct ColourTable {
 }
 
 // What the reader of a colour table answers.
-#[derive(Drop)]
+#[derive(Clone, Copy)]
 pub enum ClutAnswer {
     Value(ColourTable),
     Refused(Refusal),

@@ -1,11 +1,12 @@
 // What the reader of lookup tables answers: the types here, what each call must answer in specs/, and what follows from it in proofs/. No
 // function: the code is in the crate `lut`.
+#![tactic(auto)]
 use fields::{InTag, Refusal};
 use lut_mft_meaning::MftTable;
 
 // What an `mAB ` or `mBA ` tag says: its direction and channels, where the data of its colour table lie and the bytes of an entry (zeros
 // without one), and how many curves each run has. The records of the curves stand in the lent slots.
-#[derive(Drop)]
+#[derive(Clone, Copy)]
 pub struct AbmTable {
     pub to_pcs: bool,
     pub inputs: u8,
@@ -18,7 +19,7 @@ pub struct AbmTable {
     pub b_curves: u32,
 }
 
-#[derive(Drop)]
+#[derive(Clone, Copy)]
 pub enum LutAnswer {
     Mft(MftTable),
     Abm(AbmTable),
@@ -28,7 +29,7 @@ pub enum LutAnswer {
 
 // The answer, and beside it what is an array: the grid bytes as they stand, and the matrix and bias numbers, signed words in two's
 // complement. All of them are zeros unless the answer is a value.
-#[derive(Drop)]
+#[derive(Clone, Copy)]
 pub struct Lut {
     pub answer: LutAnswer,
     pub grid: [u8; 16],

@@ -1,10 +1,11 @@
 // A view of the colour table of a lookup table: the types here, what each call must answer in specs/, and what follows from it in proofs/.
 // No function: the code is in the crate `lut_view`.
+#![tactic(auto)]
 use fields::InTag;
 
 // Where the entries of a colour table start in its tag, the bytes of one, the channels, and where the grid bytes stand: one for each of
 // the first sixteen input channels, each `grid_step` behind the one before it. Without a colour table an entry has no bytes.
-#[derive(Drop)]
+#[derive(Clone, Copy)]
 pub struct TableNumbers {
     pub start: InTag,
     pub entry_size: u8,
@@ -25,14 +26,14 @@ pub const NO_NUMBERS: TableNumbers = TableNumbers {
 };
 
 // A lent tag and the numbers of its colour table.
-#[derive(Drop)]
+#[derive(Clone, Copy)]
 pub struct TableView<'a> {
     pub tag: &'a [u8],
     pub numbers: TableNumbers,
 }
 
 // What is read at a grid index: the entry as it is stored, in one byte or two.
-#[derive(Drop)]
+#[derive(Clone, Copy)]
 pub enum EntryAnswer {
     Value(u16),
     Absent,

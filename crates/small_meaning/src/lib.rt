@@ -1,9 +1,10 @@
 // What the small readers answer: the types here, what each call must answer in specs/, and what follows from it in proofs/. No function: the
 // code is in the crates `small_chad`, `small_order`, `small_raw` and `small_xyz`.
+#![tactic(auto)]
 use fields::Refusal;
 
 // Where the tag's bytes lie in the profile, from and up to but not with; or why none are read.
-#[derive(Drop)]
+#[derive(Clone, Copy)]
 pub enum Found {
     Short,
     Past,
@@ -12,7 +13,7 @@ pub enum Found {
 }
 
 // Three rows of three numbers, named as in the Rust; each is a signed word in two's complement.
-#[derive(Drop)]
+#[derive(Clone, Copy)]
 pub struct ChadMatrix {
     pub e00: u32,
     pub e01: u32,
@@ -25,14 +26,14 @@ pub struct ChadMatrix {
     pub e22: u32,
 }
 
-#[derive(Drop)]
+#[derive(Clone, Copy)]
 pub enum ChadAnswer {
     Value(ChadMatrix),
     Absent,
     Refused(Refusal),
 }
 
-#[derive(Drop)]
+#[derive(Clone, Copy)]
 pub enum SigAnswer {
     Value { signature: u32 },
     Absent,
@@ -40,7 +41,7 @@ pub enum SigAnswer {
 }
 
 // Bytes 8 to 19 of the profile, as they stand.
-#[derive(Drop)]
+#[derive(Clone, Copy)]
 pub struct DateBytes {
     pub byte8: u8,
     pub byte9: u8,
@@ -56,7 +57,7 @@ pub struct DateBytes {
     pub byte19: u8,
 }
 
-#[derive(Drop)]
+#[derive(Clone, Copy)]
 pub enum DateAnswer {
     Value(DateBytes),
     Absent,
@@ -64,7 +65,7 @@ pub enum DateAnswer {
 }
 
 // Three signed words in two's complement.
-#[derive(Drop)]
+#[derive(Clone, Copy)]
 pub struct XyzNumber {
     pub x: u32,
     pub y: u32,
@@ -72,7 +73,7 @@ pub struct XyzNumber {
 }
 
 // What `read_xyz_tag` answers. `Default` stands for three zeros, which are not read from the profile.
-#[derive(Drop)]
+#[derive(Clone, Copy)]
 pub enum XyzAnswer {
     Value(XyzNumber),
     Default,
@@ -80,7 +81,7 @@ pub enum XyzAnswer {
 }
 
 // Observer, backing, geometry, flare and illuminant, as they stand.
-#[derive(Drop)]
+#[derive(Clone, Copy)]
 pub struct Measurement {
     pub observer: u32,
     pub backing: XyzNumber,
@@ -89,7 +90,7 @@ pub struct Measurement {
     pub illuminant: u32,
 }
 
-#[derive(Drop)]
+#[derive(Clone, Copy)]
 pub enum MeasAnswer {
     Value(Measurement),
     Absent,
@@ -97,14 +98,14 @@ pub enum MeasAnswer {
 }
 
 // Illuminant and surround, and the number at byte 32: the illuminant's type by the standard, which the Rust takes for an observer.
-#[derive(Drop)]
+#[derive(Clone, Copy)]
 pub struct ViewingConditions {
     pub illuminant: XyzNumber,
     pub surround: XyzNumber,
     pub number: u32,
 }
 
-#[derive(Drop)]
+#[derive(Clone, Copy)]
 pub enum ViewAnswer {
     Value(ViewingConditions),
     Absent,
@@ -113,7 +114,7 @@ pub enum ViewAnswer {
 
 // The code points of ITU-T H.273, as they stand: colour primaries, transfer characteristics, matrix coefficients, and the flag of the
 // full range.
-#[derive(Drop)]
+#[derive(Clone, Copy)]
 pub struct CicpCodes {
     pub primaries: u8,
     pub transfer: u8,
@@ -121,7 +122,7 @@ pub struct CicpCodes {
     pub range: u8,
 }
 
-#[derive(Drop)]
+#[derive(Clone, Copy)]
 pub enum CicpAnswer {
     Value(CicpCodes),
     Absent,

@@ -1,4 +1,5 @@
 // Text: read_string_tag of moxcms, for `text`, `desc` and `mluc`. Strings are answered as ranges of the tag, and never decoded.
+#![tactic(auto)]
 mod cut;
 
 ghost use Rattle.std.specs.Prelude.{◌≡◌, ◌^◌, ◌≤◌, ◌<◌, length};

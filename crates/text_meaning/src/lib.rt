@@ -1,16 +1,17 @@
 // What the reader of text answers: the types here, what each call must answer in specs/, and what follows from it in proofs/. No function:
 // the code is in the crates `text_mluc` and `text`.
+#![tactic(auto)]
 use fields::{InTag, Refusal};
 
 // A range of the tag, in bytes.
-#[derive(Drop)]
+#[derive(Clone, Copy)]
 pub struct Range {
     pub start: InTag,
     pub length: u32,
 }
 
 // The ASCII string of `desc`, and its Unicode string with the language.
-#[derive(Drop)]
+#[derive(Clone, Copy)]
 pub struct Description {
     pub ascii: Range,
     pub language: u32,
@@ -18,7 +19,7 @@ pub struct Description {
 }
 
 // What the reader of text answers. The records of `mluc` are in the slots.
-#[derive(Drop)]
+#[derive(Clone, Copy)]
 pub enum TextAnswer {
     Text(Range),
     Desc(Description),

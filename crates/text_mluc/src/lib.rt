@@ -1,4 +1,5 @@
 // `mluc`: its records are judged first, and written once all are judged. The part of moxcms's read_string_tag for this type.
+#![tactic(auto)]
 ghost use Rattle.std.specs.Prelude.{◌≡◌, ◌++◌, ◌+◌, ◌*◌, ◌≤◌, length, drop};
 ghost use Rattle.std.proofs.lemmas.List.Edits.{sets};
 ghost use Rattle.text_meaning.specs.Mluc.{whole, record_at, records_from, records_asked, text_record_words, placed_words, words_in};
@@ -33,7 +34,7 @@ const STRING_OFFSET: u64 = 8;
 pub const TEXT_RECORD_WORDS: usize = 4;
 
 // A string of `mluc`: language and country, two bytes each, and its range of the tag.
-#[derive(Drop)]
+#[derive(Clone, Copy)]
 pub(crate) struct TextRecord {
     language: u32,
     country: u32,
@@ -42,19 +43,19 @@ pub(crate) struct TextRecord {
 }
 
 // Why a record cannot be read: its header is past the tag, or its string.
-#[derive(Drop)]
+#[derive(Clone, Copy)]
 pub(crate) enum Fault {
     Header,
     String,
 }
 
-#[derive(Drop)]
+#[derive(Clone, Copy)]
 pub(crate) enum Item {
     Record(TextRecord),
     No(Fault),
 }
 
-#[derive(Drop)]
+#[derive(Clone, Copy)]
 pub(crate) enum Verdict {
     Whole,
     Stopped(Fault),

@@ -5,17 +5,12 @@ use native.Mathlib.Omega.{arith}
 use mathlib.Core.Path.{◌≡◌, ap, ◌∙◌}
 use mathlib.Core.List.{List}
 use lib.ListN.{get_or}
-use borrow.Author.Rules.{rules}
-use Rattle.fields.proofs.u8_at.Statement.{statement}
-use Rattle.fields.proofs.u8_at.Tie as tie
+use Rattle.fields.proofs.u8_at.Goals as goal
 
 -- a byte of the list is that at another place, if both are one
+
 same_place : (s : List ℕ) (i j r : ℕ) → r ≡ get_or s i 0 → i ≡ j → r ≡ get_or s j 0
 same_place s i j r h e = h ∙ ap (λ n. get_or s n 0) e
 
-pub u8_at_spec : {M : Type 1} → statement M
-u8_at_spec =
-    tie.close
-    (tie.spec
-    (λ c κs. search rules)
-    (λ c. same_place c.before.before.args.s.now _ c.before.before.args.at.0 _ c.byte.ensures (omega arith)))
+pub returns : goal.returns
+returns c = same_place c.args.s.now _ c.args.at.0 _ c.byte.ensures (omega arith)
