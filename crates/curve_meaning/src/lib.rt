@@ -1,6 +1,7 @@
 // What the tone-curve readers answer: the types here, what each call must answer in specs/, and what follows from it in proofs/. No
 // function: the code is in the crate `curve`.
 #![tactic(auto)]
+
 use fields::Refusal;
 
 // The words of a record.

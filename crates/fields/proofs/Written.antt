@@ -17,7 +17,7 @@ use Rattle.icc.specs.Each.{Each}
 use Rattle.icc.specs.Curves.{Function, curve_type, parametric_curve_type}
 use Rattle.icc.specs.Elements.{a_to_b, b_to_a, signature}
 use Rattle.icc.specs.Numbers.{be8, be16, be32, bits, IsFixed, s15_fixed16_number, each16, each32, Is16, Is32, Each16, Each32, Bytes}
-use Rattle.icc.specs.Small.{XyzNumber, DateTime, Measurement, ViewingConditions, Cicp, s15_fixed16_array_type, signature_type, date_time_type, measurement_type, viewing_conditions_type, xyz_type, cicp_type}
+use Rattle.icc.specs.Small.{XYZNumber, DateTime, Measurement, ViewingConditions, Cicp, s15_fixed16_array_type, signature_type, date_time_type, measurement_type, viewing_conditions_type, xyz_type, cicp_type}
 use Rattle.icc.specs.Tables.{Lut, lut16_type, lut8_type}
 use Rattle.icc.specs.Text.{text_type, ascii_part, Localized, localized_head}
 use Rattle.fields.specs.Bytes.{number, u16_at, u32_at, bytes_at, words_at, signed}
@@ -227,7 +227,7 @@ pub record Signatures : Type 0 where
   pub dtim : (r : ℕ) (d : DateTime) → u32_at (date_time_type r d) 0 ≡ signature_of Dtim
   pub meas : (r : ℕ) (m : Measurement) → u32_at (measurement_type r m) 0 ≡ signature_of Meas
   pub view : (r : ℕ) (v : ViewingConditions) → u32_at (viewing_conditions_type r v) 0 ≡ signature_of View
-  pub xyz : (r : ℕ) (ns : List XyzNumber) → u32_at (xyz_type r ns) 0 ≡ signature_of Xyz
+  pub xyz : (r : ℕ) (ns : List XYZNumber) → u32_at (xyz_type r ns) 0 ≡ signature_of Xyz
   pub cicp : (r : ℕ) (c : Cicp) → u32_at (cicp_type r c) 0 ≡ signature_of KindCicp
   pub text : (r : ℕ) (s : List ℕ) → u32_at (text_type r s) 0 ≡ signature_of Text
   pub desc : (r : ℕ) (s : List ℕ) → u32_at (ascii_part r s) 0 ≡ signature_of Desc

@@ -10,7 +10,7 @@ use lib.ListN.{length, get_or, take, drop, drop_of_length-le, length-append, len
 use lib.Seq.{take-take, length-take-le}
 use borrow.Author.Tests.{le-ltb, eq-eqb}
 use Rattle.icc.specs.Numbers.{be32, each32, Is32, Each32, Bytes}
-use Rattle.icc.specs.Small.{XyzNumber, DateTime, date_time_number, Measurement, ViewingConditions, Cicp, s15_fixed16_array_type, signature_type, date_time_type, measurement_type, viewing_conditions_type, each_xyz, xyz_type, cicp_type}
+use Rattle.icc.specs.Small.{XYZNumber, DateTime, date_time_number, Measurement, ViewingConditions, Cicp, s15_fixed16_array_type, signature_type, date_time_type, measurement_type, viewing_conditions_type, each_xyz, xyz_type, cicp_type}
 use Rattle.fields.proofs.Written.{read32, length32, words_drop, words_written, bytes_drop, part_bytes, then8, then16, then32, row32}
 use Rattle.fields.specs.Bytes.{u16_at, u32_at, bytes_at, words_at}
 use Rattle.fields.specs.Place.{tag_at}
@@ -106,7 +106,7 @@ row_is : (t : List ℕ) → Bytes t → (signature n : ℕ) → 8 + 4 * n ≤ le
 row_is t b signature n l e = then32 t b 0 (omega arith) e (then32 t b 4 (omega arith) refl (row32 t b n 8 l refl refl))
 
 -- `XYZ `
-abbrev xyz_at : List ℕ → ℕ → XyzNumber
+abbrev xyz_at : List ℕ → ℕ → XYZNumber
 xyz_at t i = record { X = u32_at t i; Y = u32_at t (i + 4); Z = u32_at t (i + 8) }
 
 triple_whole : (t : List ℕ) → 20 ≤ length t → triple_of t ≡ value (first_xyz t)
@@ -301,7 +301,7 @@ sig_named n = refl
 pub cicp_named : (c : Cicp) → cicp_in_numbers (CicpAnswer.Value record { primaries = c.primaries; transfer = c.transfer; matrix = c.matrix; range = c.range }) ≡ value (cicp_told c)
 cicp_named c = refl
 
-abbrev named : XyzNumber → XyzNumber
+abbrev named : XYZNumber → XyzNumber
 named n = record { x = n.X; y = n.Y; z = n.Z }
 
 pub xyz_named : (x : SomeXyz) → xyz_in_numbers (XyzAnswer.Value (named x.first)) ≡ value (first_told x)

@@ -2,19 +2,19 @@
 -- standard, and what it is to conform. Nothing here goes by the readers' own layout.
 use Rattle.std.specs.Prelude.{ℕ, ◌+◌, ◌≤◌, ◌≡◌, List, [], ◌∷◌, ◌++◌, length, take, drop}
 use Rattle.icc.specs.Numbers.{Bytes}
-use Rattle.icc.specs.Small.{XyzNumber, DateTime, date_time_number, Measurement, ViewingConditions, Cicp, s15_fixed16_array_type, date_time_type, xyz_type}
+use Rattle.icc.specs.Small.{XYZNumber, DateTime, date_time_number, Measurement, ViewingConditions, Cicp, s15_fixed16_array_type, date_time_type, xyz_type}
 use Rattle.small_meaning.specs.Answer.{Answer, value}
 
 abbrev pub signature_told : ℕ → List ℕ
 signature_told signature = signature ∷ []
 
-abbrev pub xyz_told : XyzNumber → List ℕ
+abbrev pub xyz_told : XYZNumber → List ℕ
 xyz_told n = n.X ∷ n.Y ∷ n.Z ∷ []
 
 -- of an array of XYZNumbers the first is answered
 pub record SomeXyz : Type 0 where
-  pub first : XyzNumber
-  pub others : List XyzNumber
+  pub first : XYZNumber
+  pub others : List XYZNumber
 
 abbrev pub some_xyz_type : ℕ → SomeXyz → List ℕ
 some_xyz_type reserved x = xyz_type reserved (x.first ∷ x.others)

@@ -1,6 +1,7 @@
 // What the small readers answer: the types here, what each call must answer in specs/, and what follows from it in proofs/. No function: the
 // code is in the crates `small_chad`, `small_order`, `small_raw` and `small_xyz`.
 #![tactic(auto)]
+
 use fields::Refusal;
 
 // Where the tag's bytes lie in the profile, from and up to but not with; or why none are read.

@@ -1,6 +1,7 @@
 // What the reader of text answers: the types here, what each call must answer in specs/, and what follows from it in proofs/. No function:
 // the code is in the crates `text_mluc` and `text`.
 #![tactic(auto)]
+
 use fields::{InTag, Refusal};
 
 // A range of the tag, in bytes.
