@@ -1,5 +1,6 @@
 // The jobs of `answers`, taken apart.
 #![tactic(auto)]
+
 ghost use Rattle.std.specs.Prelude.{◌≡◌};
 ghost use Rattle.answers_jobs.specs.Stream.{u64_at, head_of, bytes_behind, at_most_eight, pixel_in, tail_of};
 

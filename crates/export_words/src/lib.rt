@@ -1,5 +1,6 @@
 // What the exported functions tell: a status, and words in front of a lent `out`.
 #![tactic(auto)]
+
 ghost use Rattle.std.specs.Prelude.{◌%◌, ◌≡◌, get_or};
 ghost use Rattle.std.proofs.lemmas.List.Edits.{sets};
 

@@ -1,5 +1,6 @@
 // Lines of text in a lent buffer: bytes, and numbers in decimal. What has no room is not written, as with C's snprintf.
 #![tactic(auto)]
+
 ghost use Rattle.std.specs.Prelude.{◌%◌, ◌^◌, ◌≡◌, drop};
 ghost use Rattle.fields.specs.Bytes.{signed};
 ghost use Rattle.lines.specs.Text.{Wrote, number, numeral, row_from, numbers, word_text};

@@ -5,6 +5,7 @@
 //   17 to 19  reserved, 0
 //   20 on     the entries
 #![tactic(auto)]
+
 ghost use Rattle.std.specs.Prelude.{◌≡◌, ◌*◌, min};
 ghost use Rattle.lut_clut_meaning.specs.Answer.{in_numbers, answer_of};
 ghost use Rattle.fields.specs.Some.{some};

@@ -3,7 +3,7 @@
 use Prim.Native.Nat.{ℕ, ◌≤◌}
 use native.Mathlib.Omega.{arith}
 use mathlib.Core.Path.{◌≡◌, refl, subst}
-use mathlib.Core.Bool.{Bool, true, false, not, ◌||◌, or_true, true≢false}
+use mathlib.Core.Bool.{Bool, true, false, not, ◌||◌, or-true, true≢false}
 use mathlib.Core.List.{List}
 use mathlib.Core.Logic.{◌⊎◌, inl, inr}
 use lib.Dec.{ltb, eqb}
@@ -53,7 +53,7 @@ inside_is low x high l h = rw (le-ltb x low l, le-ltb high x h)
 
 three_is : (i o : ℕ) → (i ≡ 3) ⊎ (o ≡ 3) → not (eqb i 3 || eqb o 3) ≡ false
 three_is i o (inl e) = rw (eq-eqb i 3 e)
-three_is i o (inr e) = rw (eq-eqb o 3 e, or_true)
+three_is i o (inr e) = rw (eq-eqb o 3 e, or-true)
 
 good_numbers : (t : List ℕ) → GoodEntries t → GoodGrid t → bad_numbers t ≡ false
 unfolding bad_numbers bad_entries bad_channels
@@ -63,7 +63,7 @@ good_numbers t h w =
 pub type_known : (t : List ℕ) → (u32_at t 0 ≡ signature_of Mft1) ⊎ (u32_at t 0 ≡ signature_of Mft2) → is_mft t ≡ true
 unfolding is_mft is_wide
 type_known t (inl e) = rw (eq-eqb _ _ e)
-type_known t (inr e) = rw (eq-eqb _ _ e, or_true)
+type_known t (inr e) = rw (eq-eqb _ _ e, or-true)
 
 -- the tables start behind the matrix
 pub start_least : (t : List ℕ) → shortest ≤ tables_start t

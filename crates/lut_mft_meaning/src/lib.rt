@@ -1,6 +1,7 @@
 // What the reader of `mft1` and `mft2` answers: the types here, what each call must answer in specs/, and what follows from it in proofs/.
 // No function: the code is in the crate `lut_mft`.
 #![tactic(auto)]
+
 use fields::{InTag, Refusal};
 
 // What an `mft1` or `mft2` tag says: the bytes of an entry (1 in `mft1`, 2 in `mft2`), its channels, the grid points of each dimension, how

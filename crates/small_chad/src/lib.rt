@@ -1,5 +1,6 @@
 // `chad`: read_chad_tag of moxcms, the small reader whose order of checks is its own. A size of 0 is an ordinary size.
 #![tactic(auto)]
+
 ghost use Rattle.std.specs.Prelude.{◌≡◌};
 ghost use Rattle.small_meaning.specs.Answer.{matrix_numbers, chad_in_numbers};
 ghost use Rattle.small_meaning.specs.Layout.{nine_numbers};

@@ -1,5 +1,6 @@
 // The order of checks that all small readers but `chad` share, and the bytes that it leads to.
 #![tactic(auto)]
+
 ghost use Rattle.std.specs.Prelude.{◌≡◌};
 ghost use Rattle.small_meaning.specs.Order.{found_of};
 

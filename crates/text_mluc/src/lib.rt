@@ -1,5 +1,6 @@
 // `mluc`: its records are judged first, and written once all are judged. The part of moxcms's read_string_tag for this type.
 #![tactic(auto)]
+
 ghost use Rattle.std.specs.Prelude.{◌≡◌, ◌++◌, ◌+◌, ◌*◌, ◌≤◌, length, drop};
 ghost use Rattle.std.proofs.lemmas.List.Edits.{sets};
 ghost use Rattle.text_meaning.specs.Mluc.{whole, record_at, records_from, records_asked, text_record_words, placed_words, words_in};
