@@ -1,5 +1,6 @@
 // A tone curve: the walk of a number, and what is told of an answer.
 #![tactic(auto)]
+
 ghost use Rattle.std.specs.Prelude.{◌≡◌, [], ◌∷◌, ◌++◌};
 ghost use Rattle.std.proofs.lemmas.List.Edits.{sets};
 ghost use Rattle.curve_meaning.specs.Answer.{words, in_numbers};

@@ -1,5 +1,6 @@
 // What is told of the small readers' answers: a status, and the words of a value.
 #![tactic(auto)]
+
 ghost use Rattle.small_meaning.specs.Answer.{chad_in_numbers, sig_in_numbers, date_in_numbers, meas_in_numbers, view_in_numbers, xyz_in_numbers, cicp_in_numbers};
 ghost use Rattle.export_words.specs.Exported.{always, Gave};
 ghost use Rattle.export_small.specs.Layout.{small_exported, chad_layout, sig_layout, date_layout, meas_layout, view_layout, xyz_layout, cicp_layout};

@@ -1,6 +1,7 @@
 // What the reader of lookup tables answers: the types here, what each call must answer in specs/, and what follows from it in proofs/. No
 // function: the code is in the crate `lut`.
 #![tactic(auto)]
+
 use fields::{InTag, Refusal};
 use lut_mft_meaning::MftTable;
 

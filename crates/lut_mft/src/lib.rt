@@ -15,6 +15,7 @@
 //
 // The tables are the input table, the colour table and the output table, one behind the other.
 #![tactic(auto)]
+
 ghost use Rattle.std.specs.Prelude.{◌≡◌, ◌*◌, ◌^◌, ◌≤◌};
 ghost use Rattle.lut_clut_meaning.specs.Table.{points_of};
 ghost use Rattle.lut_mft_meaning.specs.Answer.{in_numbers, state_from, answer_of};

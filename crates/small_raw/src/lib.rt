@@ -1,6 +1,7 @@
 // The small readers of moxcms whose types have codes and plain bytes, a module each: `sig `, `dtim` and `cicp`. A size of 0 is an ordinary
 // size.
 #![tactic(auto)]
+
 mod cicp;
 mod dtim;
 mod sig;

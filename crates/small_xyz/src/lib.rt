@@ -1,5 +1,6 @@
 // The small readers of moxcms whose types have XYZ numbers, a module each: `meas`, `view` and `XYZ `. A size of 0 is an ordinary size.
 #![tactic(auto)]
+
 mod meas;
 mod view;
 mod xyz;

@@ -1,5 +1,6 @@
 // Text: read_string_tag of moxcms, for `text`, `desc` and `mluc`. Strings are answered as ranges of the tag, and never decoded.
 #![tactic(auto)]
+
 mod cut;
 
 ghost use Rattle.std.specs.Prelude.{◌≡◌, ◌^◌, ◌≤◌, ◌<◌, length};
