@@ -1,5 +1,6 @@
 // What is told of a lookup table, and of an entry of a colour table.
 #![tactic(auto)]
+
 ghost use Rattle.std.specs.Prelude.{◌-◌, ◌%◌, ◌≡◌, cond, ◌++◌, eqb, length, get_or};
 ghost use Rattle.std.proofs.lemmas.List.Edits.{sets};
 ghost use Rattle.fields.specs.Tag.{signature_of};

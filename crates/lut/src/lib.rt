@@ -1,5 +1,6 @@
 // Lookup tables: read_lut_tag of moxcms.
 #![tactic(auto)]
+
 mod abm;
 mod answer;
 mod nested;

@@ -4,6 +4,7 @@
 //   mft1, mft2   byte 10 is the grid points of every dimension, so each next grid byte is the same one
 //   mAB , mBA    16 grid bytes, one a dimension, the bytes of an entry and 3 reserved, then the entries
 #![tactic(auto)]
+
 ghost use Rattle.std.specs.Prelude.{◌≡◌, ◌+◌, ◌*◌, ◌-◌};
 ghost use Rattle.lut_meaning.specs.Answer.{state_from};
 ghost use Rattle.lut_view_meaning.specs.Answer.{in_numbers};

@@ -1,6 +1,7 @@
 // A view of the colour table of a lookup table: the types here, what each call must answer in specs/, and what follows from it in proofs/.
 // No function: the code is in the crate `lut_view`.
 #![tactic(auto)]
+
 use fields::InTag;
 
 // Where the entries of a colour table start in its tag, the bytes of one, the channels, and where the grid bytes stand: one for each of

@@ -1,9 +1,0 @@
--- `export_lut::mft_numbers` meets its contract: each number is that of its word.
--- Assumes nothing.
-use borrow.Author.Rules.{rules}
-use Rattle.export_lut.proofs.mft_numbers.Statement.{statement}
-use Rattle.export_lut.proofs.mft_numbers.Tie as tie
-
-pub mft_numbers_spec : {M : Type 1} → statement M
-mft_numbers_spec =
-    tie.close (tie.spec (λ c κs. search rules) (λ c κs. search rules) (λ c κs. search rules) (λ c. cc))

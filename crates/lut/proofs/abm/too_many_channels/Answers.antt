@@ -1,0 +1,11 @@
+-- `lut::abm::too_many_channels` meets its contract: each way out is a test.
+-- Assumes nothing.
+use Rattle.lut.proofs.Laws.{few_inputs, many_inputs}
+use borrow.Author.Rules.{rules}
+use Rattle.lut.proofs.abm.too_many_channels.Goals as goal
+
+pub returns-then-u8_at-le4 : goal.returns-then-u8_at-le4
+returns-then-u8_at-le4 c = search (rules, few_inputs)
+
+pub returns : goal.returns
+returns c = search (rules, many_inputs)
