@@ -1,6 +1,7 @@
 // Colours between the points of a colour table, in integers: of one pixel, and of a row of them. The table is judged once, then the corners around
 // each pixel are found, and blended (src/corners.rt). `evaluate_plain` has the same for one pixel as a function that calls itself.
 #![tactic(auto)]
+
 mod corners;
 
 ghost use Rattle.std.specs.Prelude.{◌≡◌, false, ◌+◌, ◌≤◌, ◌<◌, ◌^◌, length, drop};

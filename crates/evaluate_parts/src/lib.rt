@@ -1,5 +1,6 @@
 // What an evaluation stands on, on numbers and lengths alone: the tests before it, and small parts.
 #![tactic(auto)]
+
 ghost use Rattle.std.specs.Prelude.{◌≡◌, ◌*◌, ◌<◌, ltb, length};
 ghost use Rattle.evaluate_meaning.specs.Evaluate.{odd_numbers};
 ghost use Rattle.evaluate_parts.specs.Tests.{past_of, count_of, lift_of};

@@ -1,5 +1,6 @@
 // The colour of one pixel by the plain rule, which calls itself dimension by dimension. It reads the table by the promises of the view alone.
 #![tactic(auto)]
+
 ghost use Rattle.std.specs.Prelude.{◌≡◌, ◌≤◌};
 ghost use Rattle.lut_view_meaning.specs.View.{grid_from, table_by};
 ghost use Rattle.evaluate_meaning.specs.Colour.{blend};

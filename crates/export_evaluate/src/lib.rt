@@ -1,5 +1,6 @@
 // What is told of an evaluation: a status. The results stand in the lent buffer already.
 #![tactic(auto)]
+
 ghost use Rattle.std.specs.Prelude.{◌≡◌};
 ghost use Rattle.evaluate_meaning.specs.Answer.{in_numbers};
 ghost use Rattle.export_evaluate.specs.Told.{status_of};
