@@ -1,6 +1,7 @@
 // The lines of the program `answers`: a job whose bytes are read is answered in a lent buffer. The answer is asked of the exported functions, as
 // a user of theirs asks it, and its line is printed from the words that they tell.
 #![tactic(auto)]
+
 mod pixel;
 
 ghost use Rattle.std.specs.Prelude.{◌%◌, ◌≡◌, cond, [], length};

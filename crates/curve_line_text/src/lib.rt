@@ -1,6 +1,7 @@
 // A job of `curve-line` taken apart, and the text that the program prints for it. The curve is asked of the exported function, as a user of
 // the library asks it, and the text is printed from the words that it tells.
 #![tactic(auto)]
+
 ghost use Rattle.std.specs.Prelude.{◌≡◌, length};
 ghost use Rattle.export_curve.specs.Layout.{curve_layout};
 ghost use Rattle.lines.specs.Text.{Wrote};

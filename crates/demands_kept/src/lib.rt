@@ -2,6 +2,7 @@
 // calls it and adds nothing. So a reader that promises less is refused here. What a reader does not take may be anything: limits, and slots, which
 // stay.
 #![tactic(auto)]
+
 ghost use Rattle.std.specs.Prelude.{ℕ, List};
 ghost use Rattle.small_meaning.specs.Readers.{chad, sig, date, meas, view, xyz, cicp};
 ghost use Rattle.demands.specs.Readers.{lut, trc, string, small, call, pixel, row, pixels, Keeps, Reads, Evaluates};

@@ -3,6 +3,7 @@
 // a value stand in front of `out`, in the order that the comment over the function gives; the rest of it stays, and all of it on any other
 // status. Signed numbers are 32-bit words in two's complement, and a word of `out` has 64 bits.
 #![tactic(auto)]
+
 mod curves;
 mod evaluations;
 mod smalls;

@@ -1,0 +1,11 @@
+-- `exports::evaluations::khalyksor_evaluate` meets its contract: what is told of the evaluation is told of its meaning.
+-- Assumes nothing.
+use Rattle.export_evaluate.proofs.Telling.{short_lut, pixel_told}
+use borrow.Author.Rules.{rules}
+use Rattle.exports.proofs.evaluations.khalyksor_evaluate.Goals as goal
+
+pub returns-then-lut : goal.returns-then-lut
+returns-then-lut c = search (rules, short_lut)
+
+pub returns : goal.returns
+returns c = search (rules, pixel_told)
