@@ -1,6 +1,7 @@
 // `answers`: reads jobs from standard input until it ends, and writes a line for each. By it the readers are compared with the Rust's.
 // A job that is cut short, names no reader or passes a bound ends the program. The buffers are made once, for all jobs.
 #![tactic(auto)]
+
 use answers_jobs::{StreamHead, StreamJob};
 
 // Reads the rest of a job and answers it, and says whether it was a good one.

@@ -1,5 +1,6 @@
 // Runs a table of `curve-line` jobs, each behind its length (32 bits, big-endian), and prints what `curve-line` prints for each.
 #![tactic(auto)]
+
 use fields::InTag;
 
 // Runs the next job, and says whether there was a whole one.

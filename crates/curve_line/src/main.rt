@@ -1,5 +1,6 @@
 // `curve-line`: reads one job from standard input and prints its tone curve.
 #![tactic(auto)]
+
 fn main() {
     // one byte more than the longest job, so that a longer one is seen
     let mut job = [0u8; 65_537];
