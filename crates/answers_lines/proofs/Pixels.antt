@@ -3,7 +3,7 @@
 use Prim.Native.Nat.{ℕ, ◌+◌, ◌≤◌, ◌<◌}
 use native.Mathlib.Omega.{arith}
 use mathlib.Core.Path.{◌≡◌, refl, sym, ap, ◌∙◌}
-use mathlib.Core.Bool.{Bool, true, false, cond, ◌||◌, not}
+use mathlib.Core.Bool.{false, ◌||◌, not}
 use mathlib.Core.List.{List, [], ◌∷◌, ◌++◌}
 use lib.ListN.{length, get_or, take, drop, set, replicate}
 use lib.Seq.{sets}
@@ -24,7 +24,7 @@ use Rattle.evaluate_meaning.specs.Answer.{Answer}
 use Rattle.evaluate_meaning.specs.Evaluate.{no_table, pixel_answer, pixel_after}
 use Rattle.lines.specs.Text.{Wrote, number, numbers}
 use Rattle.lines.proofs.Writing.{joined}
-use Rattle.export_words.specs.Exported.{Exported, only, always, Gave, GaveWith}
+use Rattle.export_words.specs.Exported.{only, always, Gave, GaveWith}
 use Rattle.export_words.proofs.Telling.{was_told as was-told-words, was_told_slots}
 use Rattle.export_lut.specs.Layout.{lut_layout, abm_layout, entry_layout, numbers_in}
 use Rattle.export_evaluate.specs.Told.{status_of, GaveResults}

@@ -11,7 +11,7 @@ use lib.Seq.{sets}
 use lib.Dec.{ltb, eqb}
 use mir.Syntax.{w64}
 use mir.Val.{Fits}
-use borrow.Author.Tests.{eq-eqb, ne_eqb, lt-ltb, le-ltb, ltb-true, ltb-false}
+use borrow.Author.Tests.{eq-eqb, ne_eqb, lt-ltb, le-ltb, ltb-false}
 use Rattle.fields.specs.Some.{some}
 use Rattle.fields.specs.declared.Refusal.TheVariants.{NoColourTable, TooFewSlots}
 use Rattle.fields.proofs.Choice.{neither_left, neither_right}

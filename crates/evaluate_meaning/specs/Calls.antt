@@ -1,5 +1,5 @@
 -- Single calls, one for each pixel of a row, each with the next coordinates and with the buffer behind the results before it.
-use Rattle.std.specs.Prelude.{ℕ, zero, suc, ◌-◌, ◌≡◌, List, ◌++◌, length, take, drop}
+use Rattle.std.specs.Prelude.{ℕ, zero, suc, ◌-◌, ◌≡◌, List, ◌++◌, take, drop}
 use Rattle.lut_view_meaning.specs.declared.TableNumbers.{TableNumbers}
 use Rattle.evaluate_meaning.specs.Answer.{value}
 use Rattle.evaluate_meaning.specs.Evaluate.{pixel_answer, pixel_after}

@@ -1,7 +1,7 @@
 -- What the theorems and the proofs of the functions both need: a run that ends well is whole and has so many records, a colour table that is
 -- good is that of the tag, and neither type of a tag with runs is that of `mft1` or `mft2`.
 -- Assumes nothing.
-use Prim.Native.Nat.{ℕ, ◌+◌, ◌*◌}
+use Prim.Native.Nat.{ℕ, ◌*◌}
 use native.Mathlib.Omega.{arith}
 use mathlib.Core.Path.{◌≡◌, refl, ◌∙◌, ap}
 use mathlib.Core.Bool.{Bool, true, false, cond}

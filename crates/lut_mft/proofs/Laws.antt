@@ -20,7 +20,7 @@ use Rattle.fields.specs.Tag.{signature_of}
 use Rattle.fields.specs.declared.Kind.TheVariants.{Mft1}
 use Rattle.fields.specs.declared.Refusal.{Refusal}
 use Rattle.lut_mft_meaning.specs.Answer.{State, value, refused, state_from, fields_of, answer_of}
-use Rattle.lut_mft_meaning.specs.Layout.{is_wide, is_mft, shortest, inputs, outputs, grid_points, input_entries_of, output_entries_of, entry_size_of, tables_start, entries_at, colour_table}
+use Rattle.lut_mft_meaning.specs.Layout.{is_wide, is_mft, shortest, inputs, grid_points, input_entries_of, output_entries_of, entry_size_of, tables_start, entries_at, colour_table}
 use Rattle.lut_mft_meaning.specs.Mft.{outside, most_table_entries, bad_entries, bad_channels, bad_numbers, tables_of, numbers_of, mft_of}
 use Rattle.lut_mft_meaning.specs.declared.MftAnswer.{MftAnswer}
 use Rattle.lut_mft_meaning.specs.declared.MftTable.{MftTable}

@@ -1,7 +1,6 @@
 -- `answers_lines::mark` meets its contract: what is left to store makes of the words the row of marks.
 -- Assumes nothing.
 use borrow.Author.Rules.{rules}
-use Prim.Native.Nat.{◌-◌}
 use native.Mathlib.Omega.{arith}
 use mathlib.Core.Path.{refl}
 use lib.ListN.{length-set}

@@ -1,7 +1,6 @@
 -- `evaluate::row` meets its contract: the pixels that are left, behind those that are written, are all of them.
 -- Assumes nothing.
 use borrow.Author.Rules.{rules}
-use Prim.Native.Nat.{◌-◌}
 use Rattle.evaluate.proofs.Rowing.{row_begins, row_spot, i_fits, o_fits, row_turns, row_ends}
 use Rattle.evaluate.proofs.row.Goals as goal
 

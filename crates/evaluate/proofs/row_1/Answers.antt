@@ -1,7 +1,6 @@
 -- `evaluate::row_1` meets its contract: the pixels that are left, behind those that are written, are all of them.
 -- Assumes nothing.
 use borrow.Author.Rules.{rules}
-use Prim.Native.Nat.{◌-◌}
 use Rattle.evaluate.proofs.Rowing.{three_begins, three_spot, three_i_fits, three_o_fits, three_turns, three_ends}
 use Rattle.evaluate.proofs.row_1.Goals as goal
 

@@ -1,7 +1,6 @@
 -- `evaluate::row_3` meets its contract: as that of one input.
 -- Assumes nothing.
 use borrow.Author.Rules.{rules}
-use Prim.Native.Nat.{◌-◌}
 use Rattle.evaluate.proofs.Rowing.{three_begins, three_spot, three_i_fits, three_o_fits, three_turns, three_ends}
 use Rattle.evaluate.proofs.row_3.Goals as goal
 

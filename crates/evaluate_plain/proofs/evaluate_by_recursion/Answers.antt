@@ -2,7 +2,6 @@
 -- what the whole makes of it as it was.
 -- Assumes nothing.
 use borrow.Author.Rules.{rules}
-use Prim.Native.Nat.{◌-◌}
 use Rattle.evaluate_plain.proofs.Tests.{few}
 use Rattle.evaluate_plain.proofs.Filling.{fill_begins, fill_room, fill_turns, said-laws}
 use Rattle.evaluate_plain.proofs.evaluate_by_recursion.Goals as goal

@@ -1,6 +1,5 @@
 -- `export_words::put_words` meets its contract.
 -- Assumes nothing.
-use Prim.Native.Nat.{◌-◌}
 use borrow.Author.Rules.{rules}
 use Rattle.fields.proofs.Putting.{begins, turns, full, done}
 use Rattle.export_words.proofs.put_words.Goals as goal

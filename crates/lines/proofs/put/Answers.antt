@@ -1,6 +1,5 @@
 -- `lines::put` meets its contract: what is left to write makes of the buffer what all the bytes make of it.
 -- Assumes nothing.
-use Prim.Native.Nat.{◌-◌}
 use borrow.Author.Rules.{rules}
 use Rattle.lines.proofs.Writing.{begins, turns, full, done}
 use Rattle.lines.proofs.put.Goals as goal

@@ -1,6 +1,5 @@
 -- `lines::put_short_numbers` meets its contract: what is left to write makes the whole.
 -- Assumes nothing.
-use Prim.Native.Nat.{◌-◌}
 use borrow.Author.Rules.{rules}
 use Rattle.lines.specs.Text.{numbers}
 use Rattle.lines.proofs.Laws.{row_begins, row_turns, row_ends_all}

@@ -1,6 +1,5 @@
 -- `lines::put_words` meets its contract: what is left to write makes the whole.
 -- Assumes nothing.
-use Prim.Native.Nat.{◌-◌}
 use borrow.Author.Rules.{rules}
 use Rattle.lines.proofs.Laws.{row_begins, row_turns, row_ends}
 use Rattle.lines.proofs.put_words.Goals as goal

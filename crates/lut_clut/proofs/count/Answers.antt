@@ -1,6 +1,5 @@
 -- `lut_clut::count` meets its contract: what is left of the grid, from the product so far, has the answer of the whole.
 -- Assumes nothing.
-use Prim.Native.Nat.{◌-◌}
 use borrow.Author.Rules.{rules}
 use Rattle.lut_clut.proofs.Laws.{count-laws}
 use Rattle.lut_clut.proofs.count.Goals as goal

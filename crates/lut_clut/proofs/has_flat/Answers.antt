@@ -1,6 +1,5 @@
 -- `lut_clut::has_flat` meets its contract: what is left of the grid has the answer of the whole.
 -- Assumes nothing.
-use Prim.Native.Nat.{◌-◌}
 use borrow.Author.Rules.{rules}
 use Rattle.lut_clut.proofs.Laws.{flat-laws}
 use Rattle.lut_clut.proofs.has_flat.Goals as goal

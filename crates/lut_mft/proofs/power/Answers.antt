@@ -1,6 +1,5 @@
 -- `lut_mft::power` meets its contract: the product so far is a power of the grid, below 2^32.
 -- Assumes nothing.
-use Prim.Native.Nat.{◌-◌}
 use Rattle.lut_mft.proofs.Laws.{power_begins, power_turns, power_stays, power_fits, power_ends}
 use borrow.Author.Rules.{rules}
 use Rattle.lut_mft.proofs.power.Goals as goal

@@ -1,7 +1,6 @@
 -- `lut_view::point_at` meets its contract: what is left of the grid, from the number so far, means the whole.
 -- Assumes nothing.
 use borrow.Author.Rules.{rules}
-use Prim.Native.Nat.{◌-◌}
 use Rattle.lut_view.proofs.Laws.{point-laws, next_fits}
 use Rattle.lut_view.proofs.point_at.Goals as goal
 

@@ -1,7 +1,6 @@
 -- `text_mluc::check_records` meets its contract: what is left to judge ends as the whole does. Its measure is at most the tag's length,
 -- whatever number of records is asked for.
 -- Assumes nothing.
-use Prim.Native.Nat.{◌-◌}
 use native.Mathlib.Omega.{arith}
 use borrow.Author.Rules.{rules}
 use Rattle.text_mluc.proofs.Records.{fewer, judge_begins, judge_turns, judge_stops, judge_ends}

@@ -1,6 +1,5 @@
 -- `text_mluc::write_records` meets its contract: what is left to write makes of the slots what all records make of them.
 -- Assumes nothing.
-use Prim.Native.Nat.{◌-◌}
 use borrow.Author.Rules.{rules}
 use Rattle.text_mluc.proofs.Records.{fewer, write_begins, write_turns, write_never, write_ends}
 use Rattle.text_mluc.proofs.write_records.Goals as goal

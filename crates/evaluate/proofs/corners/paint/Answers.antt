@@ -1,7 +1,6 @@
 -- `evaluate::corners::paint` meets its contract: the channels that are left, behind those that are written, are all of them.
 -- Assumes nothing.
 use borrow.Author.Rules.{rules}
-use Prim.Native.Nat.{◌-◌}
 use Rattle.evaluate.proofs.Channels.{paint_begins, paint_reach, place_fits, paint-fits, paint_less, paint_turns, paint_ends}
 use Rattle.evaluate.proofs.corners.paint.Goals as goal
 

@@ -1,6 +1,5 @@
 -- `lut::abm::fill_bytes` meets its contract: what is left to store makes of the slice the row of bytes.
 -- Assumes nothing.
-use Prim.Native.Nat.{◌-◌}
 use native.Mathlib.Omega.{arith}
 use mathlib.Core.Path.{refl}
 use lib.ListN.{length-set}

@@ -1,6 +1,5 @@
 -- `lut::nested::check_run` meets its contract: what is left of the run ends as the whole does.
 -- Assumes nothing.
-use Prim.Native.Nat.{◌-◌}
 use native.Mathlib.Omega.{arith}
 use borrow.Author.Rules.{rules}
 use Rattle.lut.proofs.RunLaws.{near, run_start, run_stop, run_again, run_done}

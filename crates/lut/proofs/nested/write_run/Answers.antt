@@ -1,6 +1,5 @@
 -- `lut::nested::write_run` meets its contract: what is left to write makes of the slots what the whole run makes of them.
 -- Assumes nothing.
-use Prim.Native.Nat.{◌-◌}
 use borrow.Author.Rules.{rules}
 use Rattle.lut_run_meaning.proofs.Writing.{begins, ends}
 use Rattle.lut.proofs.RunLaws.{curve_begins, data_fits, data_counts, slot_there, write_near, write_turn, write_never}

@@ -1,6 +1,6 @@
 -- `text::cut::kept_bytes` meets its contract: what is left of fewer is left of all.
 -- Assumes nothing.
-use Prim.Native.Nat.{◌-◌, ◌≤◌}
+use Prim.Native.Nat.{◌≤◌}
 use mathlib.Core.Path.{◌≡◌}
 use Rattle.text_meaning.specs.Cut.{byte_of, kept_of}
 use Rattle.text.proofs.cut.kept_bytes.Given as goal
