@@ -8,8 +8,7 @@ use fields::Entry;
 
 // curve::read_trc_tag. Walk 0 is the crate walk, any other number the book walk. Eleven words: kind, start, count, the seven parameters
 // g a b c d e f, and the consumed size.
-#[unsafe(no_mangle)]
-pub extern "C" fn khalyksor_read_trc_tag(
+pub fn khalyksor_read_trc_tag(
     profile: &[u8],
     offset: u32,
     size: u32,

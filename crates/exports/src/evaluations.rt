@@ -10,8 +10,7 @@ use crate::NO_ROOM;
 // for 37 words. A coordinate for each input channel, and a result for each output channel, in front of `results`; the rest of it stays. 19 without
 // a colour table of as many inputs, 1 to 4, as there are coordinates, then 14 where `results` is too short, and 102 before both where `lut` is: all of
 // `results` stays.
-#[unsafe(no_mangle)]
-pub extern "C" fn khalyksor_evaluate(
+pub fn khalyksor_evaluate(
     tag: &[u8],
     lut: &[u64],
     coordinates: &[u16],
@@ -29,8 +28,7 @@ pub extern "C" fn khalyksor_evaluate(
 
 // evaluate::evaluate_row, the same of a row of pixels, whose coordinates and results stand pixel after pixel. 19 also where the coordinates are no
 // whole number of pixels.
-#[unsafe(no_mangle)]
-pub extern "C" fn khalyksor_evaluate_row(
+pub fn khalyksor_evaluate_row(
     tag: &[u8],
     lut: &[u64],
     coordinates: &[u16],

@@ -9,8 +9,7 @@ use crate::NO_ROOM;
 use fields::Entry;
 
 // small_chad::read_chad_tag. Nine words: the matrix, row by row.
-#[unsafe(no_mangle)]
-pub extern "C" fn khalyksor_read_chad_tag(
+pub fn khalyksor_read_chad_tag(
     profile: &[u8],
     offset: u32,
     size: u32,
@@ -26,8 +25,7 @@ pub extern "C" fn khalyksor_read_chad_tag(
 }
 
 // small_raw::read_tech_tag. One word: the signature.
-#[unsafe(no_mangle)]
-pub extern "C" fn khalyksor_read_tech_tag(
+pub fn khalyksor_read_tech_tag(
     profile: &[u8],
     offset: u32,
     size: u32,
@@ -43,8 +41,7 @@ pub extern "C" fn khalyksor_read_tech_tag(
 }
 
 // small_raw::read_date_time_tag. Twelve words: the bytes 8 to 19 of the profile.
-#[unsafe(no_mangle)]
-pub extern "C" fn khalyksor_read_date_time_tag(
+pub fn khalyksor_read_date_time_tag(
     profile: &[u8],
     offset: u32,
     size: u32,
@@ -60,8 +57,7 @@ pub extern "C" fn khalyksor_read_date_time_tag(
 }
 
 // small_xyz::read_meas_tag. Seven words: observer, backing X Y Z, geometry, flare, illuminant.
-#[unsafe(no_mangle)]
-pub extern "C" fn khalyksor_read_meas_tag(
+pub fn khalyksor_read_meas_tag(
     profile: &[u8],
     offset: u32,
     size: u32,
@@ -77,8 +73,7 @@ pub extern "C" fn khalyksor_read_meas_tag(
 }
 
 // small_xyz::read_viewing_conditions. Seven words: illuminant X Y Z, surround X Y Z, the number at byte 32.
-#[unsafe(no_mangle)]
-pub extern "C" fn khalyksor_read_viewing_conditions(
+pub fn khalyksor_read_viewing_conditions(
     profile: &[u8],
     offset: u32,
     size: u32,
@@ -94,8 +89,7 @@ pub extern "C" fn khalyksor_read_viewing_conditions(
 }
 
 // small_xyz::read_xyz_tag. Three words: X Y Z. On the default, which stands for three zeros, `out` stays.
-#[unsafe(no_mangle)]
-pub extern "C" fn khalyksor_read_xyz_tag(
+pub fn khalyksor_read_xyz_tag(
     profile: &[u8],
     offset: u32,
     size: u32,
@@ -111,8 +105,7 @@ pub extern "C" fn khalyksor_read_xyz_tag(
 }
 
 // small_raw::read_cicp_tag. Four words: primaries, transfer, matrix, the flag of the full range.
-#[unsafe(no_mangle)]
-pub extern "C" fn khalyksor_read_cicp_tag(
+pub fn khalyksor_read_cicp_tag(
     profile: &[u8],
     offset: u32,
     size: u32,
@@ -128,8 +121,7 @@ pub extern "C" fn khalyksor_read_cicp_tag(
 }
 
 // small_raw::full_range, of the last word of `cicp`: 1 if it says full range, else 0. No status.
-#[unsafe(no_mangle)]
-pub extern "C" fn khalyksor_full_range(range: u64) -> u32
+pub fn khalyksor_full_range(range: u64) -> u32
     ensures { result ≡ cond (full_range range) 1 0 }
 {
     if range == small_raw::FULL as u64 {

@@ -14,8 +14,7 @@ use fields::Entry;
 // output table (21 words); `mAB `, `mBA ` input and output channels, sixteen grid bytes, nine matrix and three bias numbers, start and length of
 // the colour table's data, the bytes of an entry, the curves of the runs A, M and B (37 words), whose records are in `slots`. `out` has room
 // for 37 words.
-#[unsafe(no_mangle)]
-pub extern "C" fn khalyksor_read_lut_tag(
+pub fn khalyksor_read_lut_tag(
     profile: &[u8],
     offset: u32,
     size: u32,
@@ -44,8 +43,7 @@ pub extern "C" fn khalyksor_read_lut_tag(
 
 // lut_view::entry_at, of the tag's own bytes and the words of its lookup table, as khalyksor_read_lut_tag gave them: `lut` is that `out`, with room
 // for 37 words. One word: the entry.
-#[unsafe(no_mangle)]
-pub extern "C" fn khalyksor_entry_at(
+pub fn khalyksor_entry_at(
     tag: &[u8],
     lut: &[u64],
     index: &[u8],

@@ -9,8 +9,7 @@ use fields::Entry;
 
 // text::read_string_tag. The type's signature, and then: `text` start and length; `desc` the ASCII string's start and length, the language,
 // the Unicode string's start and length; `mluc` the number of records, whose words are in `slots`. `out` has room for six words.
-#[unsafe(no_mangle)]
-pub extern "C" fn khalyksor_read_string_tag(
+pub fn khalyksor_read_string_tag(
     profile: &[u8],
     offset: u32,
     size: u32,

@@ -7,8 +7,7 @@ const MAJOR: u32 = 2;
 const MINOR: u32 = 1;
 
 // MAJOR in the upper sixteen bits, and MINOR in the lower: a program holds it against the header that it was compiled with.
-#[unsafe(no_mangle)]
-pub extern "C" fn khalyksor_version() -> u32
+pub fn khalyksor_version() -> u32
     ensures { result ≡ version }
 {
     MAJOR * 0x1_0000 + MINOR
