@@ -89,19 +89,27 @@ module _ (limit : ℕ) (t : List ℕ) (n : ℕ) (h : n ≡ entry_count t) where
   unfolding curv_of
   table_over z l = simp (← h, ne_eqb _ _ z, lt-ltb _ _ l)
 
+  pub table_short : (n ≡ 0 → ⊥) → n ≤ limit → length t < 12 + 2 * n → bad 11 ≡ curv_of limit t
+  unfolding curv_of
+  table_short z l k = simp (← h, ne_eqb _ _ z, le-ltb _ _ l, lt-ltb _ _ k)
+
+  pub table_whole : (n ≡ 0 → ⊥) → n ≤ limit → 12 + 2 * n ≤ length t → good (table_shape n) ≡ curv_of limit t
+  unfolding curv_of table_shape
+  table_whole z l k = simp (← h, ne_eqb _ _ z, le-ltb _ _ l, le-ltb _ _ k)
+
+  -- the same by the room that the tag has, as the code tests it
   module _ (z : n ≡ 0 → ⊥) (l : n ≤ limit) where
     pub table_cut : length t < 12 → bad 11 ≡ curv_of limit t
-    unfolding curv_of
-    table_cut c = let k : length t < entries_end n = omega arith in simp (← h, ne_eqb _ _ z, le-ltb _ _ l, lt-ltb _ _ k)
+    table_cut c = table_short z l (omega arith)
 
     module _ (c : 12 ≤ length t) where
-      pub table_short : entry_room (length t) < n → bad 11 ≡ curv_of limit t
+      pub table_no_room : entry_room (length t) < n → bad 11 ≡ curv_of limit t
       unfolding curv_of
-      table_short k = simp (← h, ne_eqb _ _ z, le-ltb _ _ l, ← same_test (length t) n c, lt-ltb _ _ k)
+      table_no_room k = simp (← h, ne_eqb _ _ z, le-ltb _ _ l, ← same_test (length t) n c, lt-ltb _ _ k)
 
-      pub table_whole : n ≤ entry_room (length t) → good (table_shape n) ≡ curv_of limit t
+      pub table_room : n ≤ entry_room (length t) → good (table_shape n) ≡ curv_of limit t
       unfolding curv_of table_shape
-      table_whole k = simp (← h, ne_eqb _ _ z, le-ltb _ _ l, ← same_test (length t) n c, le-ltb _ _ k)
+      table_room k = simp (← h, ne_eqb _ _ z, le-ltb _ _ l, ← same_test (length t) n c, le-ltb _ _ k)
 
 module _ (walk : Walk) (n : ℕ) where
   pub step_none : {m : ℕ} → n ≡ 0 → m ≡ empty_step walk → m ≡ step_of walk (table_shape n)
@@ -406,7 +414,7 @@ module _ (walk : Walk) (limit : ℕ) (p : List ℕ) (entry size : ℕ) (four : P
               let l : entry + size ≤ length p = rw q at j.fits in
               simp (le-ltb _ _ i.fits, ← b, y, le-ltb _ _ l, k) (simp (j.from_is, j.to_is, q, part_is p entry size) at w)
 
-pub ruleset found-table-laws = (table_empty, table_over, table_cut, table_short, table_whole)
+pub ruleset found-table-laws = (table_empty, table_over, table_cut, table_no_room, table_room)
 
 pub ruleset table-laws = (table_value, table_on, table_written, table_refused, table_stops, table_kept)
 
