@@ -1,5 +1,5 @@
 -- The meanings case by case, as the code meets them: each law takes what the tests and the calls on the way told, and gives the answer.
--- A function's proof cites them by name alone, `search (needs, table-laws)`.
+-- An answer cites them by name alone, `search (rules, table-laws)`.
 -- Assumes nothing.
 use Prim.Native.Nat.{ℕ, zero, suc, ◌+◌, ◌-◌, ◌*◌, ◌/◌, ◌^◌, ◌≤◌, ◌<◌}
 use native.Mathlib.Omega.{arith}

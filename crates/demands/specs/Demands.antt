@@ -210,7 +210,7 @@ WholePixels pixel n xs = length xs ≡ n.inputs
 WholePixels row n xs = length xs % n.inputs ≡ 0
 
 -- Every call is answered, and inside. That each call ends with one of the outcomes of `Outcome`, traps nowhere, and stays inside its
--- slices, is each function's own proof, in proofs/F/Proof.antt of its crate
+-- slices, is each function's own proof; proofs/F/ of its crate has what the prover does not find
 pub record Demand1 (l : Library) : Type 0 where
   -- a reader's refusal has one of the numbers of `refusal_numbers`, 1 to 17
   pub numbered : (r : Reader) (c : Call) (n : ℕ) → ends l r c ≡ refused n → (is_refusal n ≡ true) × (n ≤ 17)

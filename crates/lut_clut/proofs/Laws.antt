@@ -1,5 +1,5 @@
 -- The meanings case by case, as the code meets them: each law takes what the tests and the calls on the way told, and gives the answer.
--- A function's proof cites them by name alone, `search (needs, count-laws)`. Of a loop, what is left has the answer of the whole.
+-- An answer cites them by name alone, `search (rules, count-laws)`. Of a loop, what is left has the answer of the whole.
 -- Assumes nothing.
 use Prim.Native.Nat.{ℕ, suc, ◌+◌, ◌-◌, ◌*◌, ◌^◌, ◌≤◌, ◌<◌, min}
 use native.Mathlib.Omega.{arith}
