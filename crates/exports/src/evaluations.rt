@@ -10,12 +10,7 @@ use crate::NO_ROOM;
 // for 37 words. A coordinate for each input channel, and a result for each output channel, in front of `results`; the rest of it stays. 19 without
 // a colour table of as many inputs, 1 to 4, as there are coordinates, then 14 where `results` is too short, and 102 before both where `lut` is: all of
 // `results` stays.
-pub fn khalyksor_evaluate(
-    tag: &[u8],
-    lut: &[u64],
-    coordinates: &[u16],
-    results: &mut [u16],
-) -> u32
+pub fn khalyksor_evaluate(tag: &[u8], lut: &[u64], coordinates: &[u16], results: &mut [u16]) -> u32
     ensures { GaveResults lut.now (pixel_answer tag.now (numbers_in lut.now) coordinates.now (length results.old)) (pixel_after tag.now (numbers_in lut.now) coordinates.now results.old) result results.old results.new }
 {
     if lut.len() < export_lut::ABM.words {

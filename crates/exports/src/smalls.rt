@@ -9,12 +9,7 @@ use crate::NO_ROOM;
 use fields::Entry;
 
 // small_chad::read_chad_tag. Nine words: the matrix, row by row.
-pub fn khalyksor_read_chad_tag(
-    profile: &[u8],
-    offset: u32,
-    size: u32,
-    out: &mut [u64],
-) -> u32
+pub fn khalyksor_read_chad_tag(profile: &[u8], offset: u32, size: u32, out: &mut [u64]) -> u32
     ensures { Gave (always chad_layout) (within chad_layout.words out.old (small_exported (chad_of profile.now offset size))) result out.old out.new }
 {
     if out.len() < export_small::CHAD.words {
@@ -25,12 +20,7 @@ pub fn khalyksor_read_chad_tag(
 }
 
 // small_raw::read_tech_tag. One word: the signature.
-pub fn khalyksor_read_tech_tag(
-    profile: &[u8],
-    offset: u32,
-    size: u32,
-    out: &mut [u64],
-) -> u32
+pub fn khalyksor_read_tech_tag(profile: &[u8], offset: u32, size: u32, out: &mut [u64]) -> u32
     ensures { Gave (always sig_layout) (within sig_layout.words out.old (small_exported (sig_of profile.now offset size))) result out.old out.new }
 {
     if out.len() < export_small::SIG.words {
@@ -41,12 +31,7 @@ pub fn khalyksor_read_tech_tag(
 }
 
 // small_raw::read_date_time_tag. Twelve words: the bytes 8 to 19 of the profile.
-pub fn khalyksor_read_date_time_tag(
-    profile: &[u8],
-    offset: u32,
-    size: u32,
-    out: &mut [u64],
-) -> u32
+pub fn khalyksor_read_date_time_tag(profile: &[u8], offset: u32, size: u32, out: &mut [u64]) -> u32
     ensures { Gave (always date_layout) (within date_layout.words out.old (small_exported (date_of profile.now offset size))) result out.old out.new }
 {
     if out.len() < export_small::DATE.words {
@@ -57,12 +42,7 @@ pub fn khalyksor_read_date_time_tag(
 }
 
 // small_xyz::read_meas_tag. Seven words: observer, backing X Y Z, geometry, flare, illuminant.
-pub fn khalyksor_read_meas_tag(
-    profile: &[u8],
-    offset: u32,
-    size: u32,
-    out: &mut [u64],
-) -> u32
+pub fn khalyksor_read_meas_tag(profile: &[u8], offset: u32, size: u32, out: &mut [u64]) -> u32
     ensures { Gave (always meas_layout) (within meas_layout.words out.old (small_exported (meas_of profile.now offset size))) result out.old out.new }
 {
     if out.len() < export_small::MEAS.words {
@@ -89,12 +69,7 @@ pub fn khalyksor_read_viewing_conditions(
 }
 
 // small_xyz::read_xyz_tag. Three words: X Y Z. On the default, which stands for three zeros, `out` stays.
-pub fn khalyksor_read_xyz_tag(
-    profile: &[u8],
-    offset: u32,
-    size: u32,
-    out: &mut [u64],
-) -> u32
+pub fn khalyksor_read_xyz_tag(profile: &[u8], offset: u32, size: u32, out: &mut [u64]) -> u32
     ensures { Gave (always xyz_layout) (within xyz_layout.words out.old (small_exported (xyz_of profile.now offset size))) result out.old out.new }
 {
     if out.len() < export_small::XYZ.words {
@@ -105,12 +80,7 @@ pub fn khalyksor_read_xyz_tag(
 }
 
 // small_raw::read_cicp_tag. Four words: primaries, transfer, matrix, the flag of the full range.
-pub fn khalyksor_read_cicp_tag(
-    profile: &[u8],
-    offset: u32,
-    size: u32,
-    out: &mut [u64],
-) -> u32
+pub fn khalyksor_read_cicp_tag(profile: &[u8], offset: u32, size: u32, out: &mut [u64]) -> u32
     ensures { Gave (always cicp_layout) (within cicp_layout.words out.old (small_exported (cicp_of profile.now offset size))) result out.old out.new }
 {
     if out.len() < export_small::CICP.words {
