@@ -10,10 +10,19 @@ use lib.Dec.{eqb}
 use borrow.Author.Tests.{eqb-true, eq-eqb}
 use types.Run.{OneOf}
 use denote.Enum.Declared.{tag_of}
+use Rattle.std.specs.Int.{w32, from_be_bytes}
+use Rattle.fields.specs.Bytes.{u32_at}
+use Rattle.fields.proofs.Words.{word_be}
 use Rattle.fields.specs.Tag.{signature_of, kinds, kind_in, kind_of}
 use Rattle.fields.specs.declared.Kind.{Kind}
 use Rattle.fields.specs.declared.Kind.TheVariants.{Curv, Para, Mft1, Mft2, Mab, Mba, Mluc, Desc, Text, Xyz, Sf32, Meas, View, Cicp, Sig, Dtim, Other}
 use Rattle.fields.specs.contracts.Kind as made
+
+-- ---- the kind that four bytes name
+
+-- where the number of the four bytes is n, it is the kind of n
+pub named : (four : List ℕ) {n r : ℕ} {k : Kind} → r ≡ from_be_bytes w32 four → r ≡ n → kind_of n ≡ k → k ≡ kind_of (u32_at four 0)
+named four e h f = sym f ∙ ap kind_of (sym h ∙ e ∙ word_be four)
 
 -- ---- the arm of a kind
 

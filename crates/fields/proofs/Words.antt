@@ -2,26 +2,21 @@
 -- Assumes nothing.
 use Prim.Native.Nat.{ℕ, zero, suc, ◌+◌, ◌*◌, ◌≤◌, ◌<◌}
 use native.Mathlib.Omega.{arith}
-use native.Mathlib.Nat.{add_assoc, add-zero}
 use mathlib.Core.Path.{◌≡◌, refl, sym, ◌∙◌, ap}
 use mathlib.Core.List.{List}
 use lib.ListN.{length, get_or, take, drop, length-drop, get_or-eq_default}
 use lib.Seq.{ext_get_or, get_or-take, get_or-drop, length-take-le}
-use Rattle.fields.specs.Bytes.{number, u16_at, u32_at, bytes_at, words_at}
-use Rattle.fields.specs.Tag.{kind_of}
-use Rattle.fields.specs.declared.Kind.{Kind}
+use Rattle.std.specs.Int.{w16, w32, from_be_bytes}
+use Rattle.fields.specs.Bytes.{u16_at, u32_at, bytes_at, words_at}
+
+-- big-endian numbers as std has them
+pub half_be : (bytes : List ℕ) → from_be_bytes w16 bytes ≡ u16_at bytes 0
+half_be bytes = omega arith
+
+pub word_be : (bytes : List ℕ) → from_be_bytes w32 bytes ≡ u32_at bytes 0
+word_be bytes = omega arith
 
 module _ (s : List ℕ) where
-  pub word_is : (at k : ℕ) {a b c d r : ℕ} → r ≡ number a b c d → a ≡ get_or s (at + k) 0 → b ≡ get_or s (at + (k + 1)) 0 → c ≡ get_or s (at + (k + 2)) 0 → d ≡ get_or s (at + (k + 3)) 0 → r ≡ u32_at s (at + k)
-  word_is at k e ea eb ec ed = e ∙ rw (ea, eb, ec, ed, ← add_assoc at k 1, ← add_assoc at k 2, ← add_assoc at k 3)
-
-  -- from the place itself on
-  pub half_is : (at : ℕ) {a b : ℕ} → a ≡ get_or s (at + 0) 0 → b ≡ get_or s (at + 1) 0 → a * 256 + b ≡ u16_at s at
-  half_is at ea eb = rw (ea, eb, add-zero at)
-
-  pub kind_is : (at : ℕ) {a b c d : ℕ} {k : Kind} → a ≡ get_or s (at + 0) 0 → b ≡ get_or s (at + 1) 0 → c ≡ get_or s (at + 2) 0 → d ≡ get_or s (at + 3) 0 → k ≡ kind_of (number a b c d) → k ≡ kind_of (u32_at s at)
-  kind_is at ea eb ec ed h = h ∙ ap kind_of (rw (ea, eb, ec, ed, add-zero at))
-
   pub words_length : (i n : ℕ) → length (words_at s i n) ≡ n
   unfolding words_at
   words_length i zero = refl

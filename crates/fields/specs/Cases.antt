@@ -1,5 +1,6 @@
 -- The worked cases of what every reader stands on: numbers in a list of bytes, signs, kinds of tag, places, sizes, and the numbers of the house.
-use Rattle.std.specs.Prelude.{ℕ, ◌≡◌, List, [], ◌∷◌, map, ℤ, pos, negsuc}
+use Rattle.std.specs.Prelude.{ℕ, ◌≡◌, List, [], ◌∷◌, map, ℤ, pos, negsuc, Option, Some, None}
+use Rattle.std.specs.declared.ops.Range.{Range}
 use Rattle.fields.specs.Bytes.{number, u16_at, u32_at, bytes_at, words_at, signed}
 use Rattle.fields.specs.House.{house_limits}
 use Rattle.fields.specs.Place.{place_of, tag_at, counted_size}
@@ -8,8 +9,6 @@ use Rattle.fields.specs.Tag.{signature_of, kind_of}
 use Rattle.fields.specs.declared.Kind.{Kind}
 use Rattle.fields.specs.declared.Kind.TheVariants.{Curv, Para, Mft1, Mft2, Mab, Mba, Mluc, Desc, Text, Xyz, Sf32, Meas, View, Cicp, Sig, Dtim, Other}
 use Rattle.fields.specs.declared.Limits.{Limits}
-use Rattle.fields.specs.declared.Place.{Place}
-use Rattle.fields.specs.declared.Place.TheVariants.{In, Past}
 use Rattle.fields.specs.declared.Refusal.{Refusal}
 use Rattle.fields.specs.declared.Refusal.TheVariants.{PastProfile, TagTooShort, OtherLut, GridOverflow, GridZero, GridTooLarge, GridDimension, EntrySize, OtherCurve, TooManyEntries, CurveRunsOut, FunctionType, ZeroDivision, TooFewSlots, BadTable, GridOverLimit, BadChad}
 
@@ -28,7 +27,7 @@ pub data Case : Type 0 where
   -- four letters, and the kind of tag
   names : ℕ → ℕ → ℕ → ℕ → Kind → Case
   -- the length of a profile, an offset and an end, and the place
-  lies : ℕ → ℕ → ℕ → Place → Case
+  lies : ℕ → ℕ → ℕ → Option (Range ℕ) → Case
   -- an offset and an end, and the bytes of that tag
   holds : ℕ → ℕ → List ℕ → Case
   -- a size, and what it counts as
@@ -88,9 +87,9 @@ cases =
     names 0x64 0x74 0x69 0x6d Dtim ∷
     names 0 0 0 0 Other ∷
     -- a tag may end where the profile does
-    lies 10 3 7 (In 3 10) ∷
-    lies 10 3 8 Past ∷
-    lies 10 11 0 Past ∷
+    lies 10 3 7 (Some record { start = 3; end = 10 }) ∷
+    lies 10 3 8 None ∷
+    lies 10 11 0 None ∷
     holds 1 3 (0x34 ∷ 0x56 ∷ 0x78 ∷ []) ∷
     -- a size of 0 counts as 12
     counts 0 12 ∷

@@ -3,11 +3,13 @@
 #![tactic(auto)]
 
 ghost use Rattle.std.specs.Prelude.{◌≡◌, ◌+◌, ◌≤◌, length, get_or};
-ghost use Rattle.fields.specs.Bytes.{number, u16_at, u32_at, words_at};
+ghost use Rattle.fields.specs.Bytes.{u16_at, u32_at, words_at};
 ghost use Rattle.fields.specs.House.{house_limits};
 ghost use Rattle.fields.specs.Place.{place_of, counted_size};
 ghost use Rattle.fields.specs.Refusals.{refusal_number};
 ghost use Rattle.fields.specs.Tag.{kind_of};
+
+use std::ops::Range;
 
 // The shortest tag: a type signature, four reserved bytes and four more. The Rust's TAG_SIZE.
 pub const TAG_SIZE: u32 = 12;
@@ -33,59 +35,39 @@ pub struct Entry(pub u32);
 #[derive(Clone, Copy)]
 pub struct InTag(pub u64);
 
-// Why a call is refused; `refusal_number` of specs/ gives the number.
-#[derive(Clone, Copy)]
+// Why a call is refused, each under the number by which users know it.
+#[derive(Clone, Copy, Debug, PartialEq, Eq)]
 pub enum Refusal {
-    PastProfile,
-    TagTooShort,
-    OtherLut,
-    GridOverflow,
-    GridZero,
-    GridTooLarge,
-    GridDimension,
-    EntrySize,
-    OtherCurve,
-    TooManyEntries,
-    CurveRunsOut,
-    FunctionType,
-    ZeroDivision,
-    TooFewSlots,
-    BadTable,
-    GridOverLimit,
-    BadChad,
-    NoColourTable,
+    PastProfile = 1,
+    TagTooShort = 2,
+    OtherLut = 3,
+    GridOverflow = 4,
+    GridZero = 5,
+    GridTooLarge = 6,
+    GridDimension = 7,
+    EntrySize = 8,
+    OtherCurve = 9,
+    TooManyEntries = 10,
+    CurveRunsOut = 11,
+    FunctionType = 12,
+    ZeroDivision = 13,
+    TooFewSlots = 14,
+    BadTable = 15,
+    GridOverLimit = 16,
+    BadChad = 17,
+    NoColourTable = 19,
 }
 
-impl Refusal {
-    // The number by which users know a refusal.
-    pub fn number(self) -> u32
-        ensures { result ≡ refusal_number self }
-    {
-        match self {
-            Refusal::PastProfile => 1,
-            Refusal::TagTooShort => 2,
-            Refusal::OtherLut => 3,
-            Refusal::GridOverflow => 4,
-            Refusal::GridZero => 5,
-            Refusal::GridTooLarge => 6,
-            Refusal::GridDimension => 7,
-            Refusal::EntrySize => 8,
-            Refusal::OtherCurve => 9,
-            Refusal::TooManyEntries => 10,
-            Refusal::CurveRunsOut => 11,
-            Refusal::FunctionType => 12,
-            Refusal::ZeroDivision => 13,
-            Refusal::TooFewSlots => 14,
-            Refusal::BadTable => 15,
-            Refusal::GridOverLimit => 16,
-            Refusal::BadChad => 17,
-            Refusal::NoColourTable => 19,
-        }
+impl From<Refusal> for u32 {
+    ghost from_gives = { λ why n. n ≡ refusal_number why };
+
+    fn from(why: Refusal) -> u32 {
+        why as u32
     }
 }
 
 // The kind of a tag, by its type signature. The Rust's TagTypeDefinition.
-#[derive(Clone, Copy)]
+#[derive(Clone, Copy, Debug, PartialEq, Eq)]
 pub enum Kind {
     Curv,
     Para,
@@ -138,13 +120,15 @@ impl Kind {
     pub const SIG: u32 = 0x73696720;
 
     pub const DTIM: u32 = 0x6474696d;
+}
 
-    // The kind that four bytes name.
-    pub fn of(a: u8, b: u8, c: u8, d: u8) -> Kind
-        ensures { result ≡ kind_of (number a b c d) }
-    {
-        let four = (((a as u32) * 256 + (b as u32)) * 256 + (c as u32)) * 256 + (d as u32);
-        match four {
+// The kind that four bytes name.
+impl From<[u8; 4]> for Kind {
+    ghost from_gives = { λ four kind. kind ≡ kind_of (u32_at four 0) };
+
+    #[tactic(auto, using(crate::proofs::Signatures::named), unfolding(crate::specs::Tag::kind_of, crate::specs::Tag::kind_in, crate::specs::Tag::signature_of))]
+    fn from(four: [u8; 4]) -> Kind {
+        match u32::from_be_bytes(four) {
             Kind::CURV => Kind::Curv,
             Kind::PARA => Kind::Para,
             Kind::MFT1 => Kind::Mft1,
@@ -166,28 +150,16 @@ impl Kind {
     }
 }
 
-// Where the bytes of a tag lie in the profile: from, and up to but not with.
-#[derive(Clone, Copy)]
-pub enum Place {
-    In { from: usize, to: usize },
-    Past,
-}
-
-// Where the tag's bytes before `end` lie. This is the only function that takes both kinds of offset.
-pub fn locate(profile: &[u8], entry: Entry, end: InTag) -> Place
+// Where the tag's bytes before `end` lie in the profile, if it reaches so far. This is the only function that takes both kinds of offset.
+pub fn locate(profile: &[u8], entry: Entry, end: InTag) -> Option<Range<usize>>
     ensures { result ≡ place_of (length profile.now) entry.0 end.0 }
 {
     let from = entry.0 as usize;
     let size = end.0 as usize;
-    if profile.len() < from {
-        return Place::Past;
-    }
-    if profile.len() - from < size {
-        return Place::Past;
-    }
-    Place::In {
-        from,
-        to: from + size,
+    if size <= profile.len() && from <= profile.len() - size {
+        Some(from..from + size)
+    } else {
+        None
     }
 }
 
@@ -208,41 +180,28 @@ pub fn house_limits() -> Limits
     }
 }
 
-// The big-endian 32-bit number of four bytes.
-pub fn number_of(a: u8, b: u8, c: u8, d: u8) -> u32
-    ensures { result ≡ number a b c d }
-{
-    (((a as u32) * 256 + (b as u32)) * 256 + (c as u32)) * 256 + (d as u32)
-}
-
 // The byte `k` behind `at`, and 0 past the end.
 fn byte(s: &[u8], at: InTag, k: usize) -> u8
     ensures { result ≡ get_or s.now (at.0 + k) 0 }
 {
-    let i = at.0 as usize;
-    if s.len() <= i {
-        return 0;
+    match (at.0 as usize).checked_add(k) {
+        Some(i) => s.get(i).copied().unwrap_or(0),
+        None => 0,
     }
-    if s.len() - i <= k {
-        return 0;
-    }
-    s[i + k]
 }
 
 // The byte at `at`, and 0 past the end.
 pub fn u8_at(s: &[u8], at: InTag) -> u8
     ensures { result ≡ get_or s.now at.0 0 }
 {
-    byte(s, at, 0)
+    s.get(at.0 as usize).copied().unwrap_or(0)
 }
 
 // The big-endian 16-bit number at `at`; bytes past the end count as 0.
 pub fn u16_at(s: &[u8], at: InTag) -> u16
     ensures { result ≡ u16_at s.now at.0 }
 {
-    let a = byte(s, at, 0);
-    let b = byte(s, at, 1);
-    (a as u16) * 256 + (b as u16)
+    u16::from_be_bytes([byte(s, at, 0), byte(s, at, 1)])
 }
 
 // The big-endian 32-bit number `k` bytes behind `at`; bytes past the end count as 0.
@@ -250,11 +209,12 @@ fn word(s: &[u8], at: InTag, k: usize) -> u32
     requires { k ≤ 32 }
     ensures { result ≡ u32_at s.now (at.0 + k) }
 {
-    let a = byte(s, at, k);
-    let b = byte(s, at, k + 1);
-    let c = byte(s, at, k + 2);
-    let d = byte(s, at, k + 3);
-    number_of(a, b, c, d)
+    u32::from_be_bytes([
+        byte(s, at, k),
+        byte(s, at, k + 1),
+        byte(s, at, k + 2),
+        byte(s, at, k + 3),
+    ])
 }
 
 // The big-endian 32-bit number at `at`; bytes past the end count as 0.
@@ -264,55 +224,25 @@ pub fn u32_at(s: &[u8], at: InTag) -> u32
     word(s, at, 0)
 }
 
-// Nine numbers, each of 32 bits, all of whose bytes are there.
-fn whole_nine(s: &[u8], from: usize) -> [u32; 9]
-    requires { from + 36 ≤ length s.now }
-    ensures { result ≡ words_at s.now from 9 }
-{
-    let mut words = [0u32; 9];
-    let mut k = 0;
-    while k < 9 {
-        let at = from + 4 * k;
-        words[k] = number_of(s[at], s[at + 1], s[at + 2], s[at + 3]);
-        k += 1;
-    }
-    words
-}
-
-// Nine numbers, each of 32 bits, from `at` on; bytes past the end count as 0.
-fn cut_nine(s: &[u8], at: InTag) -> [u32; 9]
-    ensures { result ≡ words_at s.now at.0 9 }
-{
-    let mut words = [0u32; 9];
-    let mut i = 0;
-    while i < 9 {
-        words[i] = word(s, at, 4 * i);
-        i += 1;
-    }
-    words
-}
-
 // The nine numbers of a matrix, each of 32 bits, from `at` on; bytes past the end count as 0.
 pub fn nine_at(s: &[u8], at: InTag) -> [u32; 9]
     ensures { result ≡ words_at s.now at.0 9 }
 {
-    let from = at.0 as usize;
-    if s.len() < from {
-        return cut_nine(s, at);
+    let mut words = [0; 9];
+    for i in 0..9 {
+        words[i] = word(s, at, 4 * i);
     }
-    if s.len() - from < 36 {
-        return cut_nine(s, at);
-    }
-    whole_nine(s, from)
+    words
 }
 
 // The kind that the four bytes at `at` name.
 pub fn kind_at(s: &[u8], at: InTag) -> Kind
     ensures { result ≡ kind_of (u32_at s.now at.0) }
 {
-    let a = byte(s, at, 0);
-    let b = byte(s, at, 1);
-    let c = byte(s, at, 2);
-    let d = byte(s, at, 3);
-    Kind::of(a, b, c, d)
+    Kind::from([
+        byte(s, at, 0),
+        byte(s, at, 1),
+        byte(s, at, 2),
+        byte(s, at, 3),
+    ])
 }

@@ -4,11 +4,8 @@ use native.Mathlib.Omega.{arith}
 use Rattle.fields.proofs.Located.{place_in, place_past}
 use Rattle.fields.proofs.locate.Goals as goal
 
-pub returns-then-profile-from : goal.returns-then-profile-from
-returns-then-profile-from c = place_past _ _ _ (omega arith)
+pub returns-then-from-profile : goal.returns-then-from-profile
+returns-then-from-profile c = place_in _ _ _ (omega arith)
 
-pub returns-then-profile-from-2 : goal.returns-then-profile-from-2
-returns-then-profile-from-2 c = place_past _ _ _ (omega arith)
-
-pub returns : goal.returns
-returns c = place_in _ _ _ (omega arith)
+pub returns-else-size-profile : goal.returns-else-size-profile
+returns-else-size-profile c = place_past _ _ _ (omega arith)
