@@ -1,6 +1,6 @@
 -- What `locate` tells its caller, and the list that a part of the profile is.
 -- Assumes nothing.
-use Prim.Native.Nat.{ℕ, ◌+◌, ◌-◌, ◌≤◌, ◌<◌}
+use Prim.Native.Nat.{ℕ, ◌+◌, ◌-◌, ◌^◌, ◌≤◌, ◌<◌}
 use native.Mathlib.Omega.{arith}
 use native.Mathlib.Nat.{add-sub_cancel_left}
 use mathlib.Core.Path.{◌≡◌, refl, sym, ◌∙◌}
@@ -68,6 +68,9 @@ module _ (n entry end : ℕ) {w : Range ℕ} {r : Option (Range ℕ)} (h : r ≡
   -- a part of the profile has the bytes that were asked for, so bounds on their number are bounds on its length
   part_length : (p : List ℕ) → length p ≡ n → length (take (w.end - w.start) (drop w.start p)) ≡ end
   part_length p l = let i = inside n entry end h e in omega (arith, length-take (w.end - w.start) (drop w.start p), length-drop w.start p)
+
+  pub part_in_32_bits : (p : List ℕ) → length p ≡ n → end < 2 ^ 32 → length (take (w.end - w.start) (drop w.start p)) < 2 ^ 32
+  part_in_32_bits p l k = omega (arith, part_length p l)
 
   pub part_least : (p : List ℕ) → length p ≡ n → (k : ℕ) → k ≤ end → k ≤ length (take (w.end - w.start) (drop w.start p))
   part_least p l k m = omega (arith, part_length p l)

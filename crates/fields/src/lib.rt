@@ -2,10 +2,10 @@
 // the house defaults. Carries over tag.rs and helpers.rs of moxcms.
 #![tactic(auto)]
 
-ghost use Rattle.std.specs.Prelude.{◌≡◌, ◌+◌, ◌≤◌, length, get_or};
+ghost use Rattle.std.specs.Prelude.{◌≡◌, ◌+◌, ◌^◌, ◌<◌, ◌≤◌, ◌↔◌, length, get_or, IsSome, IfSome};
 ghost use Rattle.fields.specs.Bytes.{u16_at, u32_at, words_at};
 ghost use Rattle.fields.specs.House.{house_limits};
-ghost use Rattle.fields.specs.Place.{place_of, counted_size};
+ghost use Rattle.fields.specs.Place.{place_of, counted_size, counted_tag};
 ghost use Rattle.fields.specs.Refusals.{refusal_number};
 ghost use Rattle.fields.specs.Tag.{kind_of};
 
@@ -168,6 +168,24 @@ pub fn counted_size(size: u32) -> u32
     ensures { result ≡ counted_size size }
 {
     if size == 0 { TAG_SIZE } else { size }
+}
+
+// The bytes of a tag. They are fewer than 2^32, since its size has 32 bits.
+#[derive(Clone, Copy)]
+pub struct Tag<'a> {
+    pub bytes: &'a [u8],
+    pub ghost short: { length bytes.now < 2 ^ 32 },
+}
+
+// The tag at `entry`, of `size` bytes, if the profile reaches so far; a size of 0 counts as 12.
+pub fn counted_tag<'a>(profile: &'a [u8], entry: Entry, size: u32) -> Option<Tag<'a>>
+    ensures tag { IfSome result (λ tag. tag.bytes.now ≡ counted_tag profile.now entry.0 size) }
+    ensures inside { IsSome result ↔ (entry.0 + counted_size size ≤ length profile.now) }
+{
+    let place = locate(profile, entry, InTag(counted_size(size) as u64))?;
+    Some(Tag {
+        bytes: &profile[place],
+    })
 }
 
 // Both house defaults.
