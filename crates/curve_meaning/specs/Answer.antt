@@ -1,12 +1,13 @@
 -- What a tone-curve reader answers, in numbers.
-use Rattle.std.specs.Prelude.{ℕ, ◌≡◌, cond, List, [], ◌∷◌, ltb, length}
+use Rattle.std.specs.Prelude.{ℕ, ◌≡◌, cond, List, [], ◌∷◌, ltb, length, Option, Some, None, Result, Ok, Err}
 use Rattle.std.proofs.lemmas.List.Edits.{sets}
 use Rattle.fields.specs.Checked.{Checked, good, bad}
 use Rattle.fields.specs.Refusals.{refusal_number}
+use Rattle.fields.specs.declared.Refusal.{Refusal}
+use Rattle.curve_meaning.specs.Kinds.{kind_number}
 use Rattle.curve_meaning.specs.Shape.{Shape, record_words, words_of, step_of}
 use Rattle.curve_meaning.specs.declared.CurveRecord.{CurveRecord}
-use Rattle.curve_meaning.specs.declared.CurveAnswer.{CurveAnswer}
-use Rattle.curve_meaning.specs.declared.Step.{Step}
+use Rattle.curve_meaning.specs.declared.CurveRead.{CurveRead}
 use Rattle.curve_meaning.specs.declared.Walk.{Walk}
 
 -- the words of the record and the consumed size; an absence; the number of a refusal
@@ -17,13 +18,18 @@ pub data Answer : Type 0 where
 
 -- the words of a record
 abbrev pub words : CurveRecord → List ℕ
-words r = r.kind ∷ r.start ∷ r.count ∷ r.g ∷ r.a ∷ r.b ∷ r.c ∷ r.d ∷ r.e ∷ r.f ∷ []
+words r = kind_number r.kind ∷ r.start ∷ r.count ∷ r.g ∷ r.a ∷ r.b ∷ r.c ∷ r.d ∷ r.e ∷ r.f ∷ []
 
--- the numbers that a result stands for
-abbrev pub in_numbers : CurveAnswer → Answer
-in_numbers (CurveAnswer.Value curve consumed) = value (words curve) consumed
-in_numbers CurveAnswer.Absent = absent
-in_numbers (CurveAnswer.Refused why) = refused (refusal_number why)
+-- the numbers that a result stands for, where the curve may be absent
+abbrev pub in_numbers : Result (Option CurveRead) Refusal → Answer
+in_numbers (Ok (Some read)) = value (words read.curve) read.consumed
+in_numbers (Ok None) = absent
+in_numbers (Err why) = refused (refusal_number why)
+
+-- and where it is never absent
+abbrev pub read_in_numbers : Result CurveRead Refusal → Answer
+read_in_numbers (Ok read) = value (words read.curve) read.consumed
+read_in_numbers (Err why) = refused (refusal_number why)
 
 -- what a walk answers of a curve whose data start there
 unfoldable pub answer_of : Walk → ℕ → Checked Shape → Answer
@@ -35,9 +41,9 @@ unfoldable pub step_checked : Walk → Checked Shape → Checked ℕ
 step_checked walk (good s) = good (step_of walk s)
 step_checked walk (bad n) = bad n
 
-abbrev pub step_in_numbers : Step → Checked ℕ
-step_in_numbers (Step.On n) = good n
-step_in_numbers (Step.Refused why) = bad (refusal_number why)
+abbrev pub step_in_numbers : Result ℕ Refusal → Checked ℕ
+step_in_numbers (Ok n) = good n
+step_in_numbers (Err why) = bad (refusal_number why)
 
 -- a slot with the record in front, where there is a curve; on a refusal it stays
 unfoldable pub slot_with : ℕ → List ℕ → Checked Shape → List ℕ
@@ -49,6 +55,6 @@ unfoldable pub in_slot : List ℕ → Checked Shape → Checked Shape
 in_slot slot x = cond (ltb (length slot) record_words) (bad 14) x
 
 -- a call that writes the record says how far the walk goes on, and leaves that slot
-pub record StepAndSlot (walk : Walk) (start : ℕ) (x : Checked Shape) (r : Step) (slot slot' : List ℕ) : Type 0 where
+pub record StepAndSlot (walk : Walk) (start : ℕ) (x : Checked Shape) (r : Result ℕ Refusal) (slot slot' : List ℕ) : Type 0 where
   pub step_is : step_in_numbers r ≡ step_checked walk x
   pub slot_is : slot' ≡ slot_with start slot x

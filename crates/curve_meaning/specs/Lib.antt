@@ -1,5 +1,6 @@
 pub mod Layout
 pub mod Shape
+pub mod Kinds
 pub mod Answer
 pub mod Curve
 pub mod Standard
