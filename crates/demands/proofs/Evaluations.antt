@@ -16,7 +16,7 @@ use Rattle.evaluate_meaning.specs.Answer.{value, refused, in_numbers}
 use Rattle.evaluate_meaning.specs.Calls.{after_calls, AllServed}
 use Rattle.evaluate_meaning.specs.Colour.{colour}
 use Rattle.evaluate_meaning.specs.Evaluate.{pixels_of}
-use Rattle.evaluate_meaning.specs.declared.Evaluation.{Evaluation}
+use Rattle.demands.specs.Returned.{Evaluation}
 use Rattle.evaluate_meaning.proofs.Accepted.{pixel_served, row_served}
 use Rattle.evaluate_meaning.proofs.Grow.{Stays, pixel_grows, row_grows}
 use Rattle.evaluate_meaning.proofs.Room.{Room, pixel_room, row_room}

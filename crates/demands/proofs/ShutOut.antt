@@ -23,11 +23,12 @@ use Rattle.curve_meaning.specs.Standard.{CurveFits, record_told, Tag}
 use Rattle.curve_meaning.specs.declared.Walk.TheVariants.{Crate, Book}
 use Rattle.lut_run_meaning.specs.Run.{aligned}
 use Rattle.lut_run_meaning.specs.Standard.{Passes, records_told}
-use Rattle.lut_meaning.specs.Answer.{State, mft, abm, absent as State·absent, refused as State·refused, state_from, Answer as Lut-as-Answer}
+use Rattle.lut_meaning.specs.Answer.{State, mft, abm, absent as State·absent, refused as State·refused, in_numbers as Lut·inNumbers, Answer as Lut-as-Answer}
 use Rattle.lut_meaning.specs.Cases.{tag as threeCurves}
 use Rattle.lut_meaning.specs.Layout.{present, device_channels, space_channels, a_curves_of, m_curves_of, b_curves_of, records_needed}
 use Rattle.lut_meaning.specs.Standard.{MatrixTaken, ClutFits, answer_told, records_written, PartsTaken, CurvesTaken}
-use Rattle.lut_meaning.specs.declared.LutAnswer.{LutAnswer}
+use Rattle.std.specs.Prelude.{Some, None, Ok, Err}
+use Rattle.lut_meaning.specs.declared.Lut.TheVariants.{Mft, Abm}
 use Rattle.lut_run_meaning.proofs.Conforms.{aligned_next}
 use Rattle.lut_meaning.proofs.Conforms.{written_records}
 use Rattle.small_meaning.specs.Standard.{SomeXyz}
@@ -40,8 +41,9 @@ use Rattle.evaluate_meaning.specs.Colour.{cell_of, rest_of, between, colour_of, 
 use Rattle.evaluate_meaning.specs.Evaluate.{odd_numbers, outside, no_table, pixel_answer, pixel_after, row_answer}
 use Rattle.demands.specs.Readers.{lut, Call, pixel, row, Pixels, pixels, evaluation, Library, Promised, answered}
 use Rattle.demands.specs.Demands.{in_front, curve_at, Demand1, Demand2}
+use Rattle.demands.specs.Returned.{Returned}
 use Rattle.demands.specs.Cases.{Holds, call, lone, with_table, with_slots_for}
-use Rattle.demands.specs.Wrong.{refuses_all, always_default, always_identity, unwritten, copied, made_up, too_early, zeroed, copies, one_curve, evaluates_nothing, unfilled, repeated, filled_early, ShutOut}
+use Rattle.demands.specs.Wrong.{refuses_all, always_default, always_identity, unwritten, copied, made_up, too_early, zeroed, copies, with_one_curve, evaluates_nothing, unfilled, repeated, filled_early, ShutOut}
 use Rattle.demands.proofs.Cases.{book_walk, cube_numbers}
 use Rattle.demands.proofs.Ends.{ends_so}
 
@@ -162,7 +164,7 @@ first_copied l d =
 -- one B curve would be three
 count_made_up : (l : Library) → Demand2 (made_up l) → ⊥
 count_made_up l d =
-    by (l.returns (lut Book) (with_slots_for 3)).answer (ap (λ (a : Lut-as-Answer). a.state) (three_said (made_up l) d).answer)
+    by (l.returns (lut Book) (with_slots_for 3)) (ap (λ (a : Lut-as-Answer). a.state) (three_said (made_up l) d).answer)
   where
     curves_in : State → ℕ
     curves_in (abm f) = f.b
@@ -170,11 +172,11 @@ count_made_up l d =
     curves_in State·absent = 0
     curves_in (State·refused n) = 0
 
-    by : (a : LutAnswer) → state_from (one_curve a) ≡ (answer_told parts).state → ⊥
-    by (LutAnswer.Mft t) e = let z : ◌≡◌ {A = ℕ} 0 3 = ap curves_in e in omega (arith, z)
-    by (LutAnswer.Abm t) e = let z : ◌≡◌ {A = ℕ} 1 3 = ap curves_in e in omega (arith, z)
-    by LutAnswer.Absent e = let z : ◌≡◌ {A = ℕ} 0 3 = ap curves_in e in omega (arith, z)
-    by (LutAnswer.Refused why) e = let z : ◌≡◌ {A = ℕ} 0 3 = ap curves_in e in omega (arith, z)
+    by : (a : Returned Lut) → (Lut·inNumbers (with_one_curve a)).state ≡ (answer_told parts).state → ⊥
+    by (Ok (Some (Mft m))) e = let z : ◌≡◌ {A = ℕ} 0 3 = ap curves_in e in omega (arith, z)
+    by (Ok (Some (Abm t))) e = let z : ◌≡◌ {A = ℕ} 1 3 = ap curves_in e in omega (arith, z)
+    by (Ok None) e = let z : ◌≡◌ {A = ℕ} 0 3 = ap curves_in e in omega (arith, z)
+    by (Err why) e = let z : ◌≡◌ {A = ℕ} 0 3 = ap curves_in e in omega (arith, z)
 
 -- with two slots the call is refused, and the first word would be that of a record
 written_too_early : (l : Library) → Promised l → Demand1 (too_early l) → ⊥

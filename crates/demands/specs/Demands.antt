@@ -44,7 +44,7 @@ use Rattle.evaluate_meaning.specs.Answer.{Answer as Colour-as-Answer, in_numbers
 use Rattle.evaluate_meaning.specs.Calls.{after_calls, AllServed}
 use Rattle.evaluate_meaning.specs.Colour.{colour}
 use Rattle.evaluate_meaning.specs.Evaluate.{pixels_of}
-use Rattle.evaluate_meaning.specs.declared.Evaluation.{Evaluation}
+use Rattle.demands.specs.Returned.{Evaluation}
 use Rattle.demands.specs.Readers.{Reader, lut, trc, string, small, Call, Result, numbers, meaning, Outcome, value, default, absent}
 use Rattle.demands.specs.Readers.{refused, Evaluator, pixel, row, Pixels, pixels, results_asked, evaluation}
 use Rattle.demands.specs.Readers.{Library, ends, evaluated, Promised, answered}

@@ -1,3 +1,4 @@
+pub mod Returned
 pub mod Readers
 pub mod Demands
 pub mod Cases

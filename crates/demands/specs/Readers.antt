@@ -1,24 +1,23 @@
 -- Every reader and evaluator, what a call of one is, and what its contract promises.
-use Rattle.std.specs.Prelude.{ℕ, ◌*◌, ◌≡◌, List, length}
+use Rattle.std.specs.Prelude.{ℕ, ◌*◌, ◌≡◌, List, length, Option}
 use Rattle.curve_meaning.specs.Answer.{Answer as Curve-as-Answer, in_numbers as Curve·inNumbers}
 use Rattle.curve_meaning.specs.Curve.{trc_of}
-use Rattle.curve_meaning.specs.declared.CurveAnswer.{CurveAnswer}
+use Rattle.curve_meaning.specs.declared.CurveRead.{CurveRead}
 use Rattle.curve_meaning.specs.declared.Walk.{Walk}
 use Rattle.lut_meaning.specs.Answer.{State, Answer as Lut-as-Answer, in_numbers as Lut·inNumbers}
 use Rattle.lut_meaning.specs.Lut.{lut_of, slots_after as Lut·slotsAfter}
 use Rattle.lut_meaning.specs.declared.Lut.{Lut}
 use Rattle.text_meaning.specs.Answer.{Answer as Text-as-Answer, in_numbers as Text·inNumbers}
 use Rattle.text_meaning.specs.Text.{string_of, slots_after as Text·slotsAfter}
-use Rattle.text_meaning.specs.declared.TextAnswer.{TextAnswer}
+use Rattle.text_meaning.specs.declared.TextValue.{TextValue}
 use Rattle.small_meaning.specs.Answer.{Answer as Small-as-Answer}
 use Rattle.small_meaning.specs.Readers.{Small, SmallResult, small_numbers, small_of}
 use Rattle.lut_view_meaning.specs.Answer.{in_numbers as View·inNumbers}
 use Rattle.lut_view_meaning.specs.View.{table_by, entry_of}
-use Rattle.lut_view_meaning.specs.declared.EntryAnswer.{EntryAnswer}
 use Rattle.lut_view_meaning.specs.declared.TableNumbers.{TableNumbers}
 use Rattle.evaluate_meaning.specs.Answer.{Answer as Colour-as-Answer, in_numbers as Colour·inNumbers}
 use Rattle.evaluate_meaning.specs.Evaluate.{pixel_answer, pixel_after, Evaluated, pixels_of, row_answer, row_after, RowEvaluated}
-use Rattle.evaluate_meaning.specs.declared.Evaluation.{Evaluation}
+use Rattle.demands.specs.Returned.{Returned, Evaluation}
 
 -- `read_lut_tag` and `read_trc_tag`, each on either walk; `read_string_tag`; the small ones, a table of small_meaning/specs/Readers.antt
 pub data Reader : Type 0 where
@@ -43,9 +42,9 @@ call profile entry size entries points slots =
 
 -- what a reader returns
 abbrev pub Result : Reader → Type 0
-Result (lut walk) = Lut
-Result (trc walk) = CurveAnswer
-Result string = TextAnswer
+Result (lut walk) = Returned Lut
+Result (trc walk) = Returned CurveRead
+Result string = Returned TextValue
 Result (small s) = SmallResult s
 
 -- its numbers
@@ -152,7 +151,7 @@ words_after e c = after_by e c.tag c.table c.coordinates c.words
 pub record Library : Type 0 where
   pub returns : (r : Reader) → Call → Result r
   pub leaves : Reader → Call → List ℕ
-  pub reads : List ℕ → TableNumbers → List ℕ → ℕ → EntryAnswer
+  pub reads : List ℕ → TableNumbers → List ℕ → ℕ → Option ℕ
   pub evaluates : Evaluator → Pixels → Evaluation
   pub fills : Evaluator → Pixels → List ℕ
 
@@ -177,7 +176,7 @@ abbrev pub Keeps : (r : Reader) → Call → Result r → List ℕ → Type 0
 Keeps r c x slots = Answers r c x × Leaves r c slots
 
 -- that of `lut_view::entry_at`, of the entry that it reads
-abbrev pub Reads : List ℕ → TableNumbers → List ℕ → ℕ → EntryAnswer → Type 0
+abbrev pub Reads : List ℕ → TableNumbers → List ℕ → ℕ → Option ℕ → Type 0
 Reads t n index channel x = View·inNumbers x ≡ entry_of t (table_by t n) index channel
 
 -- and that of an evaluator, of its result and of the buffer as it leaves it

@@ -1,22 +1,22 @@
 -- Wrong readers and evaluators, each made of a library by one fault, and the sentence that they are shut out.
-use Rattle.std.specs.Prelude.{ℕ, zero, suc, ◌*◌, Bool, true, false, cond, List, [], ◌++◌, length, take, replicate}
+use Rattle.std.specs.Prelude.{ℕ, zero, suc, ◌*◌, Bool, true, false, cond, List, [], ◌++◌, length, take, replicate, Some, None, Ok, Err}
 use Rattle.fields.specs.House.{tag_size}
 use Rattle.fields.specs.declared.Refusal.{Refusal}
 use Rattle.fields.specs.declared.Refusal.TheVariants.{PastProfile, NoColourTable}
 use Rattle.curve_meaning.specs.Shape.{record_words}
-use Rattle.curve_meaning.specs.declared.CurveAnswer.{CurveAnswer}
+use Rattle.curve_meaning.specs.declared.CurveKind.TheVariants.{Empty}
 use Rattle.curve_meaning.specs.declared.Walk.{Walk}
 use Rattle.lut_run_meaning.specs.Run.{records_of}
 use Rattle.lut_meaning.specs.Layout.{records_needed}
 use Rattle.lut_meaning.specs.Parts.{curves_of}
-use Rattle.lut_meaning.specs.declared.LutAnswer.{LutAnswer}
+use Rattle.lut_meaning.specs.declared.Lut.{Lut}
+use Rattle.lut_meaning.specs.declared.Lut.TheVariants.{Mft, Abm}
 use Rattle.small_meaning.specs.Answer.{Answer as Small-as-Answer}
 use Rattle.small_meaning.specs.Readers.{Small, small_numbers, small_none, small_refusal}
-use Rattle.text_meaning.specs.declared.TextAnswer.{TextAnswer}
 use Rattle.lut_view_meaning.specs.View.{table_by}
 use Rattle.evaluate_meaning.specs.Colour.{colour}
 use Rattle.evaluate_meaning.specs.Evaluate.{pixels_of}
-use Rattle.evaluate_meaning.specs.declared.Evaluation.{Evaluation}
+use Rattle.demands.specs.Returned.{Returned, Evaluation}
 use Rattle.demands.specs.Readers.{Reader, lut, trc, string, small, Call, Evaluator, pixel, row, Pixels}
 use Rattle.demands.specs.Readers.{Result, slots_after, words_after, Library, Promised}
 use Rattle.demands.specs.Demands.{tag, in_front, Demand1, Demand2}
@@ -32,9 +32,9 @@ with_evaluators l evaluates fills =
 -- ---- one that refuses all
 
 abbrev pub refusal : (r : Reader) → Refusal → Result r
-refusal (lut walk) why = record { answer = LutAnswer.Refused why; grid = replicate 16 0; matrix = replicate 9 0; bias = replicate 3 0 }
-refusal (trc walk) why = CurveAnswer.Refused why
-refusal string why = TextAnswer.Refused why
+refusal (lut walk) why = Err why
+refusal (trc walk) why = Err why
+refusal string why = Err why
 refusal (small s) why = small_refusal s why
 
 abbrev pub refuses_all : Library → Library
@@ -64,7 +64,7 @@ always_default l = with_readers l (λ r c. default_instead r (l.returns r c)) l.
 abbrev pub identity_instead : (r : Reader) → Result r → Result r
 identity_instead (lut walk) x = x
 identity_instead (trc walk) x =
-    CurveAnswer.Value record { kind = 0; start = tag_size; count = 0; g = 0; a = 0; b = 0; c = 0; d = 0; e = 0; f = 0 } 0
+    Ok (Some record { curve = record { kind = Empty; start = tag_size; count = 0; g = 0; a = 0; b = 0; c = 0; d = 0; e = 0; f = 0 }; consumed = 0 })
 identity_instead string x = x
 identity_instead (small s) x = x
 
@@ -97,26 +97,17 @@ copied l = with_readers l l.returns copied_in
 
 -- ---- one that makes up the number of records: one B curve, whatever the channels are
 
-abbrev pub one_curve : LutAnswer → LutAnswer
-one_curve (LutAnswer.Mft t) = LutAnswer.Mft t
-one_curve (LutAnswer.Abm t) =
-    LutAnswer.Abm
-    record {
-      to_pcs = t.to_pcs;
-      inputs = t.inputs;
-      outputs = t.outputs;
-      clut_start = t.clut_start;
-      clut_length = t.clut_length;
-      entry_size = t.entry_size;
-      a_curves = t.a_curves;
-      m_curves = t.m_curves;
-      b_curves = 1;
-    }
-one_curve LutAnswer.Absent = LutAnswer.Absent
-one_curve (LutAnswer.Refused why) = LutAnswer.Refused why
+abbrev pub one_curve : Lut → Lut
+one_curve (Mft m) = Mft m
+one_curve (Abm t) = Abm record t { table = record t.table { b_curves = 1 } }
+
+abbrev pub with_one_curve : Returned Lut → Returned Lut
+with_one_curve (Ok (Some l)) = Ok (Some (one_curve l))
+with_one_curve (Ok None) = Ok None
+with_one_curve (Err why) = Err why
 
 abbrev pub one_instead : (r : Reader) → Result r → Result r
-one_instead (lut walk) x = record { answer = one_curve x.answer; grid = x.grid; matrix = x.matrix; bias = x.bias }
+one_instead (lut walk) x = with_one_curve x
 one_instead (trc walk) x = x
 one_instead string x = x
 one_instead (small s) x = x
@@ -149,7 +140,7 @@ zeroed l = with_readers l l.returns zeros_in
 -- ---- an evaluator that answers 19 to all
 
 abbrev pub evaluates_nothing : Library → Library
-evaluates_nothing l = with_evaluators l (λ e c. Evaluation.Refused NoColourTable) (λ e c. c.words)
+evaluates_nothing l = with_evaluators l (λ e c. Err NoColourTable) (λ e c. c.words)
 
 -- ---- one that answers and leaves the buffer unwritten
 
