@@ -12,6 +12,7 @@ use borrow.Author.Tests.{le-ltb, eq-eqb}
 use Rattle.icc.specs.Numbers.{be32, each32, Is32, Each32, Bytes}
 use Rattle.icc.specs.Small.{XYZNumber, DateTime, date_time_number, Measurement, ViewingConditions, Cicp, s15_fixed16_array_type, signature_type, date_time_type, measurement_type, viewing_conditions_type, each_xyz, xyz_type, cicp_type}
 use Rattle.fields.proofs.Written.{read32, length32, words_drop, words_written, bytes_drop, part_bytes, then8, then16, then32, row32}
+use Rattle.std.specs.Prelude.{Some, Ok}
 use Rattle.fields.specs.Bytes.{u16_at, u32_at, bytes_at, words_at}
 use Rattle.fields.specs.Place.{tag_at}
 use Rattle.fields.specs.Tag.{signature_of}
@@ -24,12 +25,6 @@ use Rattle.small_meaning.specs.Layout.{nine_numbers, signature_in, date_bytes, m
 use Rattle.small_meaning.specs.Order.{found_of, answer_to}
 use Rattle.small_meaning.specs.Small.{chad_matrix_of, chad_of, sig_of, date_of, window_of, meas_of, view_of, triple_of, xyz_of, cicp_of}
 use Rattle.small_meaning.specs.Standard.{signature_told, SomeXyz, some_xyz_type, first_told, measurement_told, view_told, cicp_told, WrittenRead, ReadWritten, BeginsNine, BeginsDate}
-use Rattle.small_meaning.specs.declared.ChadAnswer.{ChadAnswer}
-use Rattle.small_meaning.specs.declared.CicpAnswer.{CicpAnswer}
-use Rattle.small_meaning.specs.declared.MeasAnswer.{MeasAnswer}
-use Rattle.small_meaning.specs.declared.SigAnswer.{SigAnswer}
-use Rattle.small_meaning.specs.declared.ViewAnswer.{ViewAnswer}
-use Rattle.small_meaning.specs.declared.XyzAnswer.{XyzAnswer}
 use Rattle.small_meaning.specs.declared.XyzNumber.{XyzNumber}
 use Rattle.small_meaning.proofs.Laid.{fields_are, Nine, chad_behind, window_behind, triple_behind}
 use Rattle.small_meaning.proofs.Order.{Silent, met, reaches, no_absence, no_default, no_refusal}
@@ -292,23 +287,23 @@ date_written p entry size ws b v =
 
 -- ---- the numbers of an answer stand under the standard's names in what the code answers
 
-pub chad_named : (e1 e2 e3 e4 e5 e6 e7 e8 e9 : ℕ) → chad_in_numbers (ChadAnswer.Value record { e00 = e1; e01 = e2; e02 = e3; e10 = e4; e11 = e5; e12 = e6; e20 = e7; e21 = e8; e22 = e9 }) ≡ value (e1 ∷ e2 ∷ e3 ∷ e4 ∷ e5 ∷ e6 ∷ e7 ∷ e8 ∷ e9 ∷ [])
+pub chad_named : (e1 e2 e3 e4 e5 e6 e7 e8 e9 : ℕ) → chad_in_numbers (Ok (Some record { e00 = e1; e01 = e2; e02 = e3; e10 = e4; e11 = e5; e12 = e6; e20 = e7; e21 = e8; e22 = e9 })) ≡ value (e1 ∷ e2 ∷ e3 ∷ e4 ∷ e5 ∷ e6 ∷ e7 ∷ e8 ∷ e9 ∷ [])
 chad_named e1 e2 e3 e4 e5 e6 e7 e8 e9 = refl
 
-pub sig_named : (n : ℕ) → sig_in_numbers (SigAnswer.Value n) ≡ value (signature_told n)
+pub sig_named : (n : ℕ) → sig_in_numbers (Ok (Some n)) ≡ value (signature_told n)
 sig_named n = refl
 
-pub cicp_named : (c : Cicp) → cicp_in_numbers (CicpAnswer.Value record { primaries = c.primaries; transfer = c.transfer; matrix = c.matrix; range = c.range }) ≡ value (cicp_told c)
+pub cicp_named : (c : Cicp) → cicp_in_numbers (Ok (Some record { primaries = c.primaries; transfer = c.transfer; matrix = c.matrix; range = c.range })) ≡ value (cicp_told c)
 cicp_named c = refl
 
 abbrev named : XYZNumber → XyzNumber
 named n = record { x = n.X; y = n.Y; z = n.Z }
 
-pub xyz_named : (x : SomeXyz) → xyz_in_numbers (XyzAnswer.Value (named x.first)) ≡ value (first_told x)
+pub xyz_named : (x : SomeXyz) → xyz_in_numbers (Ok (Some (named x.first))) ≡ value (first_told x)
 xyz_named x = refl
 
-pub meas_named : (m : Measurement) → meas_in_numbers (MeasAnswer.Value record { observer = m.observer; backing = named m.backing; geometry = m.geometry; flare = m.flare; illuminant = m.illuminant }) ≡ value (measurement_told m)
+pub meas_named : (m : Measurement) → meas_in_numbers (Ok (Some record { observer = m.observer; backing = named m.backing; geometry = m.geometry; flare = m.flare; illuminant = m.illuminant })) ≡ value (measurement_told m)
 meas_named m = refl
 
-pub view_named : (v : ViewingConditions) → view_in_numbers (ViewAnswer.Value record { illuminant = named v.illuminant; surround = named v.surround; number = v.type }) ≡ value (view_told v)
+pub view_named : (v : ViewingConditions) → view_in_numbers (Ok (Some record { illuminant = named v.illuminant; surround = named v.surround; number = v.type })) ≡ value (view_told v)
 view_named v = refl

@@ -7,6 +7,8 @@ use mathlib.Core.Path.{◌≡◌, refl, subst}
 use mathlib.Core.List.{List}
 use lib.Dec.{ltb, eqb}
 use lib.ListN.{length}
+use Rattle.std.specs.Prelude.{Result}
+use Rattle.std.specs.declared.ops.Range.{Range}
 use Rattle.fields.proofs.Never.{never}
 use Rattle.fields.specs.Bytes.{u32_at}
 use Rattle.fields.specs.Place.{tag_at}
@@ -18,7 +20,7 @@ use Rattle.small_meaning.specs.Layout.{nine_numbers}
 use Rattle.small_meaning.specs.Order.{answer_to}
 use Rattle.small_meaning.specs.Readers.{Small, chad, sig, date, meas, view, xyz, cicp, small_of}
 use Rattle.small_meaning.specs.Small.{chad_matrix_of, chad_of, window_of, triple_of}
-use Rattle.small_meaning.specs.declared.Found.{Found}
+use Rattle.small_meaning.specs.declared.Unfound.{Unfound}
 use Rattle.small_meaning.proofs.Order.{order_each}
 
 -- `chad`: what holds of every answer that it can give holds of the one that it gives
@@ -50,7 +52,7 @@ module _ (Q : ℕ → Type 0) (one : Q 1) (two : Q 2) (seventeen : Q 17) where
   standard n e = never cc
 
   -- the order that the readers share
-  ordered : (f : Found) {short other this : Answer} → Only short → Only other → Only this → Only (answer_to f short other this)
+  ordered : (f : Result (Range ℕ) Unfound) {short other this : Answer} → Only short → Only other → Only this → Only (answer_to f short other this)
   ordered f a b c = order_each Only f a (only 1 one) b c
 
   pub small_refuses : (s : Small) (p : List ℕ) (entry size : ℕ) → Only (small_of s p entry size)

@@ -8,6 +8,8 @@ use mathlib.Core.Logic.{inl, inr}
 use lib.Dec.{ltb}
 use lib.ListN.{length}
 use borrow.Author.Tests.{ltb-false}
+use Rattle.std.specs.Prelude.{Result, Ok, Err}
+use Rattle.std.specs.declared.ops.Range.{Range}
 use Rattle.fields.specs.Place.{tag_at}
 use Rattle.fields.specs.Tag.{signature_of}
 use Rattle.fields.specs.declared.Kind.TheVariants.{Dtim}
@@ -18,7 +20,7 @@ use Rattle.small_meaning.specs.Layout.{signature_in, date_bytes, conditions, cod
 use Rattle.small_meaning.specs.Order.{found_of, answer_to}
 use Rattle.small_meaning.specs.Readers.{Small, chad, sig, date, meas, view, xyz, cicp, small_of}
 use Rattle.small_meaning.specs.Small.{chad_of, window_of, triple_of}
-use Rattle.small_meaning.specs.declared.Found.{Found}
+use Rattle.small_meaning.specs.declared.Unfound.{Unfound}
 use Rattle.small_meaning.proofs.Order.{tagged}
 
 -- the answers that may change
@@ -28,10 +30,10 @@ Past a = a ≡ refused 1
 module _ (p q : List ℕ) (entry size : ℕ) where
   -- ---- the order
 
-  found_more : (least end signature : ℕ) → Grows (λ f. f ≡ Found.Past) (found_of least end signature p entry size) (found_of least end signature (p ++ q) entry size)
+  found_more : (least end signature : ℕ) → Grows (λ f. f ≡ Err Unfound.Past) (found_of least end signature p entry size) (found_of least end signature (p ++ q) entry size)
   unfolding found_of
   found_more least end signature =
-      let L : Found → Type 0 = λ f. f ≡ Found.Past in
+      let L : Result (Range ℕ) Unfound → Type 0 = λ f. f ≡ Err Unfound.Past in
       choose L (ltb size least) (λ _. inr refl)
       (λ _. passes L (ltb (length p) (entry + end)) (ltb (length (p ++ q)) (entry + end)) (longer p q (entry + end)) refl
       (λ e. rw (part_append p q entry end (ltb-false (length p) (entry + end) e)) (inr refl)))
@@ -41,13 +43,13 @@ module _ (p q : List ℕ) (entry size : ℕ) where
   unfolding answer_to
   order_more least end signature short other this this' g = by (found_more least end signature)
     where
-      same : (f : Found) → found_of least end signature p entry size ≡ f → Grows Past (answer_to f short other this) (answer_to f short other this')
-      same Found.Short h = inr refl
-      same Found.Past h = inr refl
-      same Found.Other h = inr refl
-      same (Found.Tag from to) h = let t = tagged least end signature p entry size h in g t.long t.fits
+      same : (f : Result (Range ℕ) Unfound) → found_of least end signature p entry size ≡ f → Grows Past (answer_to f short other this) (answer_to f short other this')
+      same (Err Unfound.Short) h = inr refl
+      same (Err Unfound.Past) h = inr refl
+      same (Err Unfound.Other) h = inr refl
+      same (Ok w) h = let t = tagged least end signature p entry size h in g t.long t.fits
 
-      by : Grows (λ f. f ≡ Found.Past) (found_of least end signature p entry size) (found_of least end signature (p ++ q) entry size) → Grows Past (answer_to (found_of least end signature p entry size) short other this) (answer_to (found_of least end signature (p ++ q) entry size) short other this')
+      by : Grows (λ f. f ≡ Err Unfound.Past) (found_of least end signature p entry size) (found_of least end signature (p ++ q) entry size) → Grows Past (answer_to (found_of least end signature p entry size) short other this) (answer_to (found_of least end signature (p ++ q) entry size) short other this')
       by (inl e) = inl (rw e)
       by (inr e) = rw e (same (found_of least end signature p entry size) refl)
 

@@ -7,46 +7,48 @@ use mathlib.Core.List.{List}
 use lib.Dec.{ltb, eqb}
 use lib.ListN.{length, take, drop}
 use borrow.Author.Tests.{eq-eqb, ne_eqb, lt-ltb, le-ltb, ltb-false, eqb-true}
+use Rattle.std.specs.Prelude.{Option, Some, None, Result, Ok, Err}
+use Rattle.std.specs.declared.ops.Range.{Range}
 use Rattle.fields.proofs.Never.{never}
 use Rattle.fields.specs.Bytes.{u32_at}
 use Rattle.fields.specs.Place.{place_of, tag_at}
-use Rattle.fields.specs.declared.Place.{Place}
-use Rattle.fields.specs.declared.Place.TheVariants.{In, Past}
+use Rattle.fields.specs.declared.Refusal.{Refusal}
 use Rattle.fields.proofs.Choice.{each}
 use Rattle.fields.proofs.Located.{inside, past, part_is}
-use Rattle.small_meaning.specs.Answer.{Answer, value, default, absent, refused}
-use Rattle.small_meaning.specs.Order.{found_of, answer_to}
-use Rattle.small_meaning.specs.declared.Found.{Found}
+use Rattle.small_meaning.specs.Answer.{Answer, value, default, absent, refused, answer_in}
+use Rattle.small_meaning.specs.Order.{found_of, answer_to, unfound_result}
+use Rattle.small_meaning.specs.declared.Unfound.{Unfound}
 
 -- what a tag that is found has
-pub record Tagged (least end signature : ℕ) (p : List ℕ) (entry size from to : ℕ) : Type 0 where
+pub record Tagged (least end signature : ℕ) (p : List ℕ) (entry size : ℕ) (w : Range ℕ) : Type 0 where
   pub long : least ≤ size
   pub fits : entry + end ≤ length p
   pub typed : u32_at (tag_at p entry end) 0 ≡ signature
-  pub from_is : from ≡ entry
-  pub to_is : to ≡ entry + end
+  pub from_is : w.start ≡ entry
+  pub to_is : w.end ≡ entry + end
 
 module _ (least end signature : ℕ) (p : List ℕ) (entry size : ℕ) where
   -- ---- the ways out of `find`
 
-  pub found_short : size < least → Found.Short ≡ found_of least end signature p entry size
+  pub found_short : size < least → Err Unfound.Short ≡ found_of least end signature p entry size
   unfolding found_of
   found_short l = simp (lt-ltb _ _ l)
 
-  module _ (place : Place) (h : place ≡ place_of (length p) entry end) (l : least ≤ size) where
-    pub found_past : place ≡ Past → Found.Past ≡ found_of least end signature p entry size
+  module _ (place : Option (Range ℕ)) (h : place ≡ place_of (length p) entry end) (l : least ≤ size) where
+    pub found_past : place ≡ None → Err Unfound.Past ≡ found_of least end signature p entry size
     unfolding found_of
     found_past e = simp (le-ltb _ _ l, lt-ltb _ _ (past _ _ _ h e))
 
-    module _ (from to w : ℕ) (e : place ≡ In from to) (k : w ≡ u32_at (take (to - from) (drop from p)) 0) where
-      pub found_tag : w ≡ signature → Found.Tag from to ≡ found_of least end signature p entry size
+    module _ (w : Range ℕ) (type : ℕ) (e : place ≡ Some w) (k : type ≡ u32_at (take (w.end - w.start) (drop w.start p)) 0) where
+      pub found_tag : type ≡ signature → Ok w ≡ found_of least end signature p entry size
       unfolding found_of
       found_tag s =
           let i = inside _ _ _ h e in
           let t : u32_at (tag_at p entry end) 0 ≡ signature = sym (simp (i.from_is, i.to_is, part_is p entry end) at k) ∙ s in
-          simp (le-ltb _ _ l, le-ltb _ _ i.fits, i.from_is, i.to_is, eq-eqb _ _ t)
+          let same : w ≡ record { start = entry; end = entry + end } = λ j. record { start = i.from_is j; end = i.to_is j } in
+          simp (le-ltb _ _ l, le-ltb _ _ i.fits, eq-eqb _ _ t) (ap Ok same)
 
-      pub found_other : (w ≡ signature → ⊥) → Found.Other ≡ found_of least end signature p entry size
+      pub found_other : (type ≡ signature → ⊥) → Err Unfound.Other ≡ found_of least end signature p entry size
       unfolding found_of
       found_other s =
           let i = inside _ _ _ h e in
@@ -55,64 +57,66 @@ module _ (least end signature : ℕ) (p : List ℕ) (entry size : ℕ) where
 
   -- ---- a tag that is found
 
-  pub tagged : {from to : ℕ} → found_of least end signature p entry size ≡ Found.Tag from to → Tagged least end signature p entry size from to
+  pub tagged : {w : Range ℕ} → found_of least end signature p entry size ≡ Ok w → Tagged least end signature p entry size w
   unfolding found_of
-  tagged {from} {to} =
-      let P : Found → Type 0 = λ f. f ≡ Found.Tag from to → Tagged least end signature p entry size from to in
+  tagged {w} =
+      let P : Result (Range ℕ) Unfound → Type 0 = λ f. f ≡ Ok w → Tagged least end signature p entry size w in
       each P (ltb size least) _ _ (λ _ e. never cc)
       (λ l. each P (ltb (length p) (entry + end)) _ _ (λ _ e. never cc)
       (λ f. each P (eqb (u32_at (tag_at p entry end) 0) signature) _ _
       (λ t e. record { long = ltb-false _ _ l; fits = ltb-false _ _ f; typed = eqb-true _ _ t; from_is = cc; to_is = cc })
       (λ _ e. never cc)))
 
-  module _ {f : Found} (h : f ≡ found_of least end signature p entry size) {from to : ℕ} (e : f ≡ Found.Tag from to) where
+  module _ {f : Result (Range ℕ) Unfound} (h : f ≡ found_of least end signature p entry size) {w : Range ℕ} (e : f ≡ Ok w) where
     -- the bounds that its bytes ask of the profile
-    pub starts : from ≤ to
-    starts = let w = tagged (sym h ∙ e) in omega arith
+    pub starts : w.start ≤ w.end
+    starts = let t = tagged (sym h ∙ e) in omega arith
 
-    pub ends : to ≤ length p
-    ends = let w = tagged (sym h ∙ e) in omega arith
+    pub ends : w.end ≤ length p
+    ends = let t = tagged (sym h ∙ e) in omega arith
 
 -- a tag that is found whole makes the profile as long as the least size
-pub covers : (least signature : ℕ) (p : List ℕ) (entry size : ℕ) {f : Found} {from to : ℕ} → f ≡ found_of least size signature p entry size → f ≡ Found.Tag from to → least ≤ length p
-covers least signature p entry size h e = let w = tagged least size signature p entry size (sym h ∙ e) in omega arith
+pub covers : (least signature : ℕ) (p : List ℕ) (entry size : ℕ) {f : Result (Range ℕ) Unfound} {w : Range ℕ} → f ≡ found_of least size signature p entry size → f ≡ Ok w → least ≤ length p
+covers least signature p entry size h e = let t = tagged least size signature p entry size (sym h ∙ e) in omega arith
 
 -- ---- the ways out of a reader
 
-module _ (short other this : Answer) (f g : Found) (h : f ≡ g) where
-  pub answer_short : f ≡ Found.Short → short ≡ answer_to g short other this
+module _ (short other this : Answer) (f g : Result (Range ℕ) Unfound) (h : f ≡ g) where
+  pub answer_short : f ≡ Err Unfound.Short → short ≡ answer_to g short other this
   unfolding answer_to
   answer_short e = simp (← h, e)
 
-  pub answer_past : f ≡ Found.Past → refused 1 ≡ answer_to g short other this
+  pub answer_this : (a : Answer) (w : Range ℕ) → f ≡ Ok w → a ≡ this → a ≡ answer_to g short other this
   unfolding answer_to
-  answer_past e = simp (← h, e)
+  answer_this a w e s = simp (← h, e) s
 
-  pub answer_other : f ≡ Found.Other → other ≡ answer_to g short other this
-  unfolding answer_to
-  answer_other e = simp (← h, e)
-
-  pub answer_this : (a : Answer) (from to : ℕ) → f ≡ Found.Tag from to → a ≡ this → a ≡ answer_to g short other this
-  unfolding answer_to
-  answer_this a from to e w = simp (← h, e) w
+-- a tag that is not found is answered alike by most readers
+pub answer_unfound : {A : Type 0} (numbers : A → List ℕ) (none this : Answer) (f g : Result (Range ℕ) Unfound) → f ≡ g → (why : Unfound) → f ≡ Err why → (r : Result (Option A) Refusal) → r ≡ unfound_result why → answer_in numbers none r ≡ answer_to g none none this
+unfolding answer_to
+answer_unfound numbers none this f g h why e r u = simp (← h, e, u) (by why)
+  where
+    by : (why : Unfound) → answer_in numbers none (unfound_result why) ≡ answer_to (Err why) none none this
+    by Unfound.Short = refl
+    by Unfound.Past = refl
+    by Unfound.Other = refl
 
 -- what the bytes of a tag that is found say
-pub answer_tag : (says : List ℕ → Answer) (short other : Answer) (least end signature : ℕ) (p : List ℕ) (entry size : ℕ) (f : Found) (from to : ℕ) (a : Answer) → f ≡ found_of least end signature p entry size → f ≡ Found.Tag from to → a ≡ says (take (to - from) (drop from p)) → a ≡ answer_to (found_of least end signature p entry size) short other (says (tag_at p entry end))
-answer_tag says short other least end signature p entry size f from to a h e w =
+pub answer_tag : (says : List ℕ → Answer) (short other : Answer) (least end signature : ℕ) (p : List ℕ) (entry size : ℕ) (f : Result (Range ℕ) Unfound) (w : Range ℕ) (a : Answer) → f ≡ found_of least end signature p entry size → f ≡ Ok w → a ≡ says (take (w.end - w.start) (drop w.start p)) → a ≡ answer_to (found_of least end signature p entry size) short other (says (tag_at p entry end))
+answer_tag says short other least end signature p entry size f w a h e s =
     let t = tagged least end signature p entry size (sym h ∙ e) in
-    answer_this short other _ f _ h a from to e (simp (t.from_is, t.to_is, part_is p entry end) at w)
+    answer_this short other _ f _ h a w e (simp (t.from_is, t.to_is, part_is p entry end) at s)
 
-pub answer_fields : (fields : List ℕ → List ℕ) (short other : Answer) (least end signature : ℕ) (p : List ℕ) (entry size : ℕ) (f : Found) (from to : ℕ) (ws : List ℕ) → f ≡ found_of least end signature p entry size → f ≡ Found.Tag from to → ws ≡ fields (take (to - from) (drop from p)) → value ws ≡ answer_to (found_of least end signature p entry size) short other (value (fields (tag_at p entry end)))
-answer_fields fields short other least end signature p entry size f from to ws h e w =
-    answer_tag (λ (t : List ℕ). value (fields t)) short other least end signature p entry size f from to (value ws) h e (ap value w)
+pub answer_fields : (fields : List ℕ → List ℕ) (short other : Answer) (least end signature : ℕ) (p : List ℕ) (entry size : ℕ) (f : Result (Range ℕ) Unfound) (w : Range ℕ) (ws : List ℕ) → f ≡ found_of least end signature p entry size → f ≡ Ok w → ws ≡ fields (take (w.end - w.start) (drop w.start p)) → value ws ≡ answer_to (found_of least end signature p entry size) short other (value (fields (tag_at p entry end)))
+answer_fields fields short other least end signature p entry size f w ws h e s =
+    answer_tag (λ (t : List ℕ). value (fields t)) short other least end signature p entry size f w (value ws) h e (ap value s)
 
 -- what holds of every answer that a reader can give holds of the one that it gives
-pub order_each : (P : Answer → Type 0) (f : Found) {short other this : Answer} → P short → P (refused 1) → P other → P this → P (answer_to f short other this)
+pub order_each : (P : Answer → Type 0) (f : Result (Range ℕ) Unfound) {short other this : Answer} → P short → P (refused 1) → P other → P this → P (answer_to f short other this)
 unfolding answer_to
-order_each P Found.Short a b c d = a
-order_each P Found.Past a b c d = b
-order_each P Found.Other a b c d = c
-order_each P (Found.Tag from to) a b c d = d
+order_each P (Err Unfound.Short) a b c d = a
+order_each P (Err Unfound.Past) a b c d = b
+order_each P (Err Unfound.Other) a b c d = c
+order_each P (Ok w) a b c d = d
 
 -- ---- what stands behind a value
 
@@ -139,11 +143,11 @@ pub met : (least end signature : ℕ) (p : List ℕ) (entry size : ℕ) (short o
 unfolding answer_to
 met least end signature p entry size short other this ws s o = by (found_of least end signature p entry size) refl
   where
-    by : (f : Found) → found_of least end signature p entry size ≡ f → answer_to f short other this ≡ value ws → Met least end signature p entry size this ws
-    by Found.Short h v = absurd (s ws v)
-    by Found.Past h v = absurd (no_refusal 1 ws v)
-    by Found.Other h v = absurd (o ws v)
-    by (Found.Tag from to) h v =
+    by : (f : Result (Range ℕ) Unfound) → found_of least end signature p entry size ≡ f → answer_to f short other this ≡ value ws → Met least end signature p entry size this ws
+    by (Err Unfound.Short) h v = absurd (s ws v)
+    by (Err Unfound.Past) h v = absurd (no_refusal 1 ws v)
+    by (Err Unfound.Other) h v = absurd (o ws v)
+    by (Ok w) h v =
         let t = tagged least end signature p entry size h in
         record { long = t.long; fits = t.fits; typed = t.typed; says = v }
 
@@ -154,5 +158,3 @@ unfolding found_of answer_to
 reaches least end signature p entry size short other this l f t = simp (le-ltb _ _ l, le-ltb _ _ f, eq-eqb _ _ t)
 
 pub ruleset find-laws = (found_short, found_past, found_tag, found_other)
-
-pub ruleset answer-laws = (answer_short, answer_past, answer_other)

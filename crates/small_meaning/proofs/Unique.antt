@@ -6,49 +6,36 @@ use mathlib.Core.Path.{◌≡◌, refl, ap}
 use mathlib.Core.List.{List}
 use lib.Dec.{ltb}
 use lib.ListN.{length}
+use Rattle.std.specs.Prelude.{Option, Some, None, Result, Ok, Err}
 use Rattle.fields.specs.Bytes.{bytes_at, words_at}
 use Rattle.fields.specs.Place.{tag_at}
+use Rattle.fields.specs.declared.Refusal.{Refusal}
 use Rattle.fields.proofs.Choice.{each}
 use Rattle.fields.proofs.Numbers.{named}
 use Rattle.fields.proofs.Once.{once}
-use Rattle.small_meaning.specs.Answer.{Answer}
+use Rattle.small_meaning.specs.Answer.{Answer, absent, default, matrix_numbers, signature_numbers, date_numbers, measurement_numbers, viewing_numbers, xyz_numbers, code_numbers, answer_in}
 use Rattle.small_meaning.specs.Layout.{nine_numbers, signature_in, date_bytes, measurement, conditions, first_xyz, code_points}
-use Rattle.small_meaning.specs.Readers.{Small, chad, sig, date, meas, view, xyz, cicp, SmallResult, small_numbers, small_of, small_result}
+use Rattle.small_meaning.specs.Readers.{Small, chad, sig, date, meas, view, xyz, cicp, SmallResult, small_numbers, small_of, small_value, result_of, small_result}
 use Rattle.small_meaning.specs.Small.{window_of, triple_of}
-use Rattle.small_meaning.specs.declared.ChadAnswer.{ChadAnswer}
-use Rattle.small_meaning.specs.declared.CicpAnswer.{CicpAnswer}
-use Rattle.small_meaning.specs.declared.DateAnswer.{DateAnswer}
-use Rattle.small_meaning.specs.declared.MeasAnswer.{MeasAnswer}
-use Rattle.small_meaning.specs.declared.SigAnswer.{SigAnswer}
-use Rattle.small_meaning.specs.declared.ViewAnswer.{ViewAnswer}
-use Rattle.small_meaning.specs.declared.XyzAnswer.{XyzAnswer}
 use Rattle.small_meaning.proofs.Last.{chad_each}
 use Rattle.small_meaning.proofs.Order.{order_each}
 
 -- ---- from a result to its numbers and back
 
+-- a result whose value stands for its numbers stands for its answer
+alike : {A : Type 0} (numbers : A → List ℕ) (value_of : List ℕ → A) (none : Answer) → result_of value_of none ≡ Ok None → ((x : A) → value_of (numbers x) ≡ x) → (r : Result (Option A) Refusal) → result_of value_of (answer_in numbers none r) ≡ r
+alike numbers value_of none n v (Ok (Some x)) = ap (λ y. Ok (Some y)) (v x)
+alike numbers value_of none n v (Ok None) = n
+alike numbers value_of none n v (Err why) = ap Err (named why)
+
 back : (s : Small) (x : SmallResult s) → small_result s (small_numbers s x) ≡ x
-back chad (ChadAnswer.Value m) = refl
-back chad ChadAnswer.Absent = refl
-back chad (ChadAnswer.Refused why) = ap ChadAnswer.Refused (named why)
-back sig (SigAnswer.Value signature) = refl
-back sig SigAnswer.Absent = refl
-back sig (SigAnswer.Refused why) = ap SigAnswer.Refused (named why)
-back date (DateAnswer.Value d) = refl
-back date DateAnswer.Absent = refl
-back date (DateAnswer.Refused why) = ap DateAnswer.Refused (named why)
-back meas (MeasAnswer.Value m) = refl
-back meas MeasAnswer.Absent = refl
-back meas (MeasAnswer.Refused why) = ap MeasAnswer.Refused (named why)
-back view (ViewAnswer.Value v) = refl
-back view ViewAnswer.Absent = refl
-back view (ViewAnswer.Refused why) = ap ViewAnswer.Refused (named why)
-back xyz (XyzAnswer.Value n) = refl
-back xyz XyzAnswer.Default = refl
-back xyz (XyzAnswer.Refused why) = ap XyzAnswer.Refused (named why)
-back cicp (CicpAnswer.Value c) = refl
-back cicp CicpAnswer.Absent = refl
-back cicp (CicpAnswer.Refused why) = ap CicpAnswer.Refused (named why)
+back chad = alike matrix_numbers (small_value chad) absent refl (λ m. refl)
+back sig = alike signature_numbers (small_value sig) absent refl (λ n. refl)
+back date = alike date_numbers (small_value date) absent refl (λ bytes. refl)
+back meas = alike measurement_numbers (small_value meas) absent refl (λ m. refl)
+back view = alike viewing_numbers (small_value view) absent refl (λ v. refl)
+back xyz = alike xyz_numbers (small_value xyz) default refl (λ n. refl)
+back cicp = alike code_numbers (small_value cicp) absent refl (λ c. refl)
 
 pub small_unique : (s : Small) (a : Answer) (x y : SmallResult s) → small_numbers s x ≡ a → small_numbers s y ≡ a → x ≡ y
 small_unique s = once (small_numbers s) (small_result s) (back s)

@@ -1,16 +1,13 @@
 -- The small readers as one table: what each returns, the numbers of that and back, and the numbers that a call is to be answered with.
-use Rattle.std.specs.Prelude.{ℕ, ◌+◌, List, get_or}
+use Rattle.std.specs.Prelude.{ℕ, ◌+◌, List, get_or, Option, Some, None, Result, Ok, Err}
 use Rattle.fields.specs.declared.Refusal.{Refusal}
 use Rattle.fields.proofs.Numbers.{name_of}
 use Rattle.small_meaning.specs.Answer.{Answer, value, default, absent, refused, chad_in_numbers, sig_in_numbers, date_in_numbers, meas_in_numbers, view_in_numbers, xyz_in_numbers, cicp_in_numbers}
 use Rattle.small_meaning.specs.Small.{chad_of, sig_of, date_of, meas_of, view_of, xyz_of, cicp_of}
-use Rattle.small_meaning.specs.declared.ChadAnswer.{ChadAnswer}
-use Rattle.small_meaning.specs.declared.CicpAnswer.{CicpAnswer}
-use Rattle.small_meaning.specs.declared.DateAnswer.{DateAnswer}
-use Rattle.small_meaning.specs.declared.MeasAnswer.{MeasAnswer}
-use Rattle.small_meaning.specs.declared.SigAnswer.{SigAnswer}
-use Rattle.small_meaning.specs.declared.ViewAnswer.{ViewAnswer}
-use Rattle.small_meaning.specs.declared.XyzAnswer.{XyzAnswer}
+use Rattle.small_meaning.specs.declared.ChadMatrix.{ChadMatrix}
+use Rattle.small_meaning.specs.declared.CicpCodes.{CicpCodes}
+use Rattle.small_meaning.specs.declared.Measurement.{Measurement}
+use Rattle.small_meaning.specs.declared.ViewingConditions.{ViewingConditions}
 use Rattle.small_meaning.specs.declared.XyzNumber.{XyzNumber}
 
 -- `read_chad_tag`, `read_tech_tag`, `read_date_time_tag`, `read_meas_tag`, `read_viewing_conditions`, `read_xyz_tag`, `read_cicp_tag`
@@ -23,15 +20,18 @@ pub data Small : Type 0 where
   xyz : Small
   cicp : Small
 
--- what a reader returns
+-- the value that a reader returns, and what it returns
+abbrev pub SmallValue : Small → Type 0
+SmallValue chad = ChadMatrix
+SmallValue sig = ℕ
+SmallValue date = List ℕ
+SmallValue meas = Measurement
+SmallValue view = ViewingConditions
+SmallValue xyz = XyzNumber
+SmallValue cicp = CicpCodes
+
 abbrev pub SmallResult : Small → Type 0
-SmallResult chad = ChadAnswer
-SmallResult sig = SigAnswer
-SmallResult date = DateAnswer
-SmallResult meas = MeasAnswer
-SmallResult view = ViewAnswer
-SmallResult xyz = XyzAnswer
-SmallResult cicp = CicpAnswer
+SmallResult s = Result (Option (SmallValue s)) Refusal
 
 -- its numbers
 abbrev pub small_numbers : (s : Small) → SmallResult s → Answer
@@ -62,10 +62,9 @@ nth ws i = get_or ws i 0
 abbrev xyz_in : List ℕ → ℕ → XyzNumber
 xyz_in ws i = record { x = nth ws i; y = nth ws (i + 1); z = nth ws (i + 2) }
 
--- a value of these numbers
-abbrev small_value : (s : Small) → List ℕ → SmallResult s
+-- the value of these numbers
+abbrev pub small_value : (s : Small) → List ℕ → SmallValue s
 small_value chad ws =
-    ChadAnswer.Value
     record {
       e00 = nth ws 0;
       e01 = nth ws 1;
@@ -77,51 +76,26 @@ small_value chad ws =
       e21 = nth ws 7;
       e22 = nth ws 8;
     }
-small_value sig ws = SigAnswer.Value (nth ws 0)
-small_value date ws =
-    DateAnswer.Value
-    record {
-      byte8 = nth ws 0;
-      byte9 = nth ws 1;
-      byte10 = nth ws 2;
-      byte11 = nth ws 3;
-      byte12 = nth ws 4;
-      byte13 = nth ws 5;
-      byte14 = nth ws 6;
-      byte15 = nth ws 7;
-      byte16 = nth ws 8;
-      byte17 = nth ws 9;
-      byte18 = nth ws 10;
-      byte19 = nth ws 11;
-    }
-small_value meas ws =
-    MeasAnswer.Value record { observer = nth ws 0; backing = xyz_in ws 1; geometry = nth ws 4; flare = nth ws 5; illuminant = nth ws 6 }
-small_value view ws = ViewAnswer.Value record { illuminant = xyz_in ws 0; surround = xyz_in ws 3; number = nth ws 6 }
-small_value xyz ws = XyzAnswer.Value (xyz_in ws 0)
-small_value cicp ws =
-    CicpAnswer.Value record { primaries = nth ws 0; transfer = nth ws 1; matrix = nth ws 2; range = nth ws 3 }
+small_value sig ws = nth ws 0
+small_value date ws = ws
+small_value meas ws = record { observer = nth ws 0; backing = xyz_in ws 1; geometry = nth ws 4; flare = nth ws 5; illuminant = nth ws 6 }
+small_value view ws = record { illuminant = xyz_in ws 0; surround = xyz_in ws 3; number = nth ws 6 }
+small_value xyz ws = xyz_in ws 0
+small_value cicp ws = record { primaries = nth ws 0; transfer = nth ws 1; matrix = nth ws 2; range = nth ws 3 }
 
 -- the result that is neither value nor refusal
 abbrev pub small_none : (s : Small) → SmallResult s
-small_none chad = ChadAnswer.Absent
-small_none sig = SigAnswer.Absent
-small_none date = DateAnswer.Absent
-small_none meas = MeasAnswer.Absent
-small_none view = ViewAnswer.Absent
-small_none xyz = XyzAnswer.Default
-small_none cicp = CicpAnswer.Absent
+small_none s = Ok None
 
 abbrev pub small_refusal : (s : Small) → Refusal → SmallResult s
-small_refusal chad why = ChadAnswer.Refused why
-small_refusal sig why = SigAnswer.Refused why
-small_refusal date why = DateAnswer.Refused why
-small_refusal meas why = MeasAnswer.Refused why
-small_refusal view why = ViewAnswer.Refused why
-small_refusal xyz why = XyzAnswer.Refused why
-small_refusal cicp why = CicpAnswer.Refused why
+small_refusal s why = Err why
+
+-- the result of an answer, by the value that numbers stand for
+abbrev pub result_of : {A : Type 0} → (List ℕ → A) → Answer → Result (Option A) Refusal
+result_of value_of (value ws) = Ok (Some (value_of ws))
+result_of value_of default = Ok None
+result_of value_of absent = Ok None
+result_of value_of (refused n) = Err (name_of n)
 
 abbrev pub small_result : (s : Small) → Answer → SmallResult s
-small_result s (value ws) = small_value s ws
-small_result s default = small_none s
-small_result s absent = small_none s
-small_result s (refused n) = small_refusal s (name_of n)
+small_result s a = result_of (small_value s) a
