@@ -3,9 +3,10 @@
 use mathlib.Core.Path.{◌≡◌, refl, ap}
 use Rattle.fields.proofs.Numbers.{name_of, named}
 use Rattle.fields.proofs.Once.{once}
-use Rattle.lut_mft_meaning.specs.Answer.{Fields, State, value, refused, Answer, state_from, in_numbers}
+use Rattle.lut_mft_meaning.specs.Answer.{Fields, State, value, refused, Answer, in_numbers}
 use Rattle.lut_mft_meaning.specs.declared.Mft.{Mft}
-use Rattle.lut_mft_meaning.specs.declared.MftAnswer.{MftAnswer}
+use Rattle.fields.specs.declared.Refusal.{Refusal}
+use Rattle.std.specs.Prelude.{ℕ, List, Result, Ok, Err}
 use Rattle.lut_mft_meaning.specs.declared.MftTable.{MftTable}
 
 -- the result that stands for an answer
@@ -26,20 +27,17 @@ table_from f =
       output_length = f.output_bytes;
     }
 
-abbrev answer_from : State → MftAnswer
-answer_from (value f) = MftAnswer.Value (table_from f)
-answer_from (refused n) = MftAnswer.Refused (name_of n)
+abbrev result_by : State → List ℕ → Result Mft Refusal
+result_by (value f) matrix = Ok (record { table = table_from f; matrix = matrix })
+result_by (refused n) matrix = Err (name_of n)
 
-abbrev result_from : Answer → Mft
-result_from a = record { answer = answer_from a.state; matrix = a.matrix }
+abbrev result_from : Answer → Result Mft Refusal
+result_from a = result_by a.state a.matrix
 
-answer_back : (r : MftAnswer) → answer_from (state_from r) ≡ r
-answer_back (MftAnswer.Value table) = refl
-answer_back (MftAnswer.Refused why) = ap MftAnswer.Refused (named why)
-
-back : (r : Mft) → result_from (in_numbers r) ≡ r
-back r = ap (λ (a : MftAnswer). record { answer = a; matrix = r.matrix }) (answer_back r.answer)
+back : (r : Result Mft Refusal) → result_from (in_numbers r) ≡ r
+back (Ok m) = refl
+back (Err why) = ap Err (named why)
 
 -- two results that stand for the same answer are one
-pub unique : (a : Answer) (r s : Mft) → in_numbers r ≡ a → in_numbers s ≡ a → r ≡ s
+pub unique : (a : Answer) (r s : Result Mft Refusal) → in_numbers r ≡ a → in_numbers s ≡ a → r ≡ s
 unique = once in_numbers result_from back

@@ -1,10 +1,10 @@
 -- What the reader of `mft1` and `mft2` answers, in numbers.
-use Rattle.std.specs.Prelude.{ℕ, List, replicate}
+use Rattle.std.specs.Prelude.{ℕ, List, replicate, Result, Ok, Err}
 use Rattle.lut_clut_meaning.specs.Table.{Table, length_of}
 use Rattle.fields.specs.Refusals.{refusal_number}
 use Rattle.lut_mft_meaning.specs.Layout.{entry_size_of, inputs, outputs, grid_points, matrix_of, input_entries_of, output_entries_of, tables_start, input_length_of, colour_table, output_start_of, output_length_of}
 use Rattle.lut_mft_meaning.specs.declared.Mft.{Mft}
-use Rattle.lut_mft_meaning.specs.declared.MftAnswer.{MftAnswer}
+use Rattle.fields.specs.declared.Refusal.{Refusal}
 use Rattle.lut_mft_meaning.specs.declared.MftTable.{MftTable}
 
 -- the bytes of an entry, which tell the type; channels, grid points, entries, and where each table starts and how many bytes it has
@@ -49,12 +49,14 @@ fields_from t =
       output_bytes = t.output_length;
     }
 
-abbrev pub state_from : MftAnswer → State
-state_from (MftAnswer.Value t) = value (fields_from t)
-state_from (MftAnswer.Refused why) = refused (refusal_number why)
+abbrev pub state_from : Result MftTable Refusal → State
+state_from (Ok t) = value (fields_from t)
+state_from (Err why) = refused (refusal_number why)
 
-abbrev pub in_numbers : Mft → Answer
-in_numbers m = record { state = state_from m.answer; matrix = m.matrix }
+-- a refusal has no matrix: zeros stand beside it
+abbrev pub in_numbers : Result Mft Refusal → Answer
+in_numbers (Ok m) = record { state = value (fields_from m.table); matrix = m.matrix }
+in_numbers (Err why) = record { state = refused (refusal_number why); matrix = replicate 9 0 }
 
 -- what is answered of a tag that is good
 unfoldable pub fields_of : List ℕ → Fields

@@ -1,8 +1,8 @@
-// What the reader of `mft1` and `mft2` answers: the types here, what each call must answer in specs/, and what follows from it in proofs/.
-// No function: the code is in the crate `lut_mft`.
+// `mft1` and `mft2`: the types here, what each call must answer in specs/, and what follows from it in proofs/. Their reader answers
+// `Result<Mft, Refusal>`. No function: the code is in the crate `lut_mft`.
 #![tactic(auto)]
 
-use fields::{InTag, Refusal};
+use fields::InTag;
 
 // What an `mft1` or `mft2` tag says: the bytes of an entry (1 in `mft1`, 2 in `mft2`), its channels, the grid points of each dimension, how
 // many entries a channel has in the input table and in the output table, and where its three tables lie.
@@ -22,15 +22,9 @@ pub struct MftTable {
     pub output_length: u64,
 }
 
-#[derive(Clone, Copy)]
-pub enum MftAnswer {
-    Value(MftTable),
-    Refused(Refusal),
-}
-
-// The answer, and beside it the nine numbers of the matrix, signed words in two's complement: zeros unless the answer is a value.
+// All that such a tag says: its tables, and the nine numbers of its matrix, signed words in two's complement.
 #[derive(Clone, Copy)]
 pub struct Mft {
-    pub answer: MftAnswer,
+    pub table: MftTable,
     pub matrix: [u32; 9],
 }
