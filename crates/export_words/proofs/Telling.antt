@@ -6,12 +6,13 @@ use native.Mathlib.Omega.{arith}
 use mathlib.Core.Path.{◌≡◌, refl, sym, ap, ◌∙◌}
 use mathlib.Core.List.{List, ◌++◌}
 use lib.ListN.{length, drop}
+use Rattle.std.proofs.Common.{Option, Some, None, Result, Ok, Err}
 use borrow.Author.Tests.{lt-ltb, le-ltb}
 use Rattle.fields.specs.Refusals.{refusal_number}
 use Rattle.fields.specs.declared.Refusal.{Refusal}
 use Rattle.fields.proofs.Numbers.{name_of, named}
 use Rattle.fields.proofs.Stores.{front}
-use Rattle.export_words.specs.Exported.{Exported, only, within, Gave, GaveWith}
+use Rattle.export_words.specs.Exported.{Exported, value, only, told, within, Gave, GaveWith}
 use Rattle.export_words.specs.declared.Layout.{Layout}
 
 -- the words stand in front of `out`, and the rest of it stays
@@ -21,6 +22,12 @@ in_front_lem {layout} {t} {r} {before} {after} h g = g.out_is ∙ sym (front bef
 -- of a result that is x
 pub tells : {A : Type 0} (tell : A → Exported) {layout : ℕ → Layout} {got x : A} {r : ℕ} {before after : List ℕ} → got ≡ x → Gave layout (tell x) r before after → Gave layout (tell got) r before after
 tells tell e g = rw e g
+
+-- what is told of a reader's answer is what a definition tells of it that does so of each value, of none and of each refusal
+pub told_by : {A : Type 0} (words : A → List ℕ) (none : Exported) (tell : Result (Option A) Refusal → Exported) → ((x : A) → tell (Ok (Some x)) ≡ value (words x)) → tell (Ok None) ≡ none → ((why : Refusal) → tell (Err why) ≡ only (refusal_number why)) → (got : Result (Option A) Refusal) → told words none got ≡ tell got
+told_by words none tell v n r (Ok (Some x)) = sym (v x)
+told_by words none tell v n r (Ok None) = sym n
+told_by words none tell v n r (Err why) = sym (r why)
 
 -- a status that is no value's has no words
 pub no_words : {layout : ℕ → Layout} (n r : ℕ) (out : List ℕ) → r ≡ n → (n ≡ 0 → ⊥) → Gave layout (only n) r out out

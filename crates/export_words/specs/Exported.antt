@@ -1,7 +1,11 @@
 -- What an exported function tells its caller: a status, and words in front of the lent `out`.
-use Rattle.std.specs.Prelude.{ℕ, ◌≡◌, cond, List, [], ltb, length, get_or}
+use Rattle.std.specs.Prelude.{ℕ, ◌≡◌, cond, List, [], ltb, length, get_or, map, Option, Some, None, Result, Ok, Err}
 use Rattle.std.proofs.lemmas.List.Edits.{sets}
+use Rattle.fields.specs.Refusals.{refusal_number}
+use Rattle.fields.specs.declared.Refusal.{Refusal}
 use Rattle.export_words.specs.declared.Layout.{Layout}
+use Rattle.export_words.specs.declared.Missing.{Missing}
+use Rattle.export_words.specs.declared.Missing.TheVariants.{Absent, Default}
 
 -- 0 value, 1 to 17 and 19 the number of a refusal, 100 absent, 101 default, 102 no room
 pub record Exported : Type 0 where
@@ -20,6 +24,17 @@ absent = only 100
 
 abbrev pub default : Exported
 default = only 101
+
+-- of a value that is missing
+abbrev pub without : Missing → Exported
+without Absent = absent
+without Default = default
+
+-- of a reader's answer: the words of a value, `none` where it is missing, and the number of a refusal
+abbrev pub told : {A : Type 0} → (A → List ℕ) → Exported → Result (Option A) Refusal → Exported
+told words none (Ok (Some x)) = value (words x)
+told words none (Ok None) = none
+told words none (Err why) = only (refusal_number why)
 
 -- the layout of a value by its first word: where a reader serves several types that is the type's signature, and else the layout is one
 abbrev pub always : Layout → ℕ → Layout
@@ -50,3 +65,7 @@ pub record Gave (layout : ℕ → Layout) (t : Exported) (r : ℕ) (before after
 pub record GaveWith (layout : ℕ → Layout) (room : ℕ) (t : Exported) (slots_after : List ℕ) (r : ℕ) (before after slots slots' : List ℕ) : Type 0 where
   pub gave : Gave layout (within room before t) r before after
   pub slots_are : slots' ≡ cond (ltb (length before) room) slots slots_after
+
+-- words of any type stand from `at` on, one behind the other, each as the number that it converts to
+pub record Stored {W : Type 0} (converts : W → ℕ → Type 0) (before : List ℕ) (at : ℕ) (words : List W) (after : List ℕ) : Type 0 where
+  pub by : (number : W → ℕ) → ((x : W) (n : ℕ) → converts x n → n ≡ number x) → after ≡ sets before at (map number words)

