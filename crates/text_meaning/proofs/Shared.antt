@@ -7,14 +7,16 @@ use mathlib.Core.Path.{◌≡◌, refl, sym, ap, ◌∙◌}
 use mathlib.Core.List.{List, [], ◌∷◌}
 use lib.ListN.{length}
 use borrow.Author.Tests.{eq-eqb, ne_eqb}
+use Rattle.std.specs.Prelude.{Option, Result}
 use Rattle.fields.proofs.Never.{never}
+use Rattle.fields.specs.declared.Refusal.{Refusal}
 use Rattle.fields.specs.Bytes.{u32_at}
 use Rattle.fields.specs.Tag.{signature_of}
 use Rattle.fields.specs.declared.Kind.TheVariants.{Text, Desc, Mluc}
 use Rattle.text_meaning.specs.Answer.{Answer, in_numbers, slots_with}
 use Rattle.text_meaning.specs.Mluc.{PlacedString, FoundRecord, is, no, whole, first, record_at, follow, records_from, text_record_words, words_in}
 use Rattle.text_meaning.specs.Text.{AnswerAndSlots, text_of, desc_of, mluc_of, by_type}
-use Rattle.text_meaning.specs.declared.TextAnswer.{TextAnswer}
+use Rattle.text_meaning.specs.declared.TextValue.{TextValue}
 
 -- ---- the words of records
 
@@ -68,7 +70,7 @@ module _ (t : List ℕ) (words : ℕ) where
 
 -- ---- what is answered, and what is left
 
-module _ (t s : List ℕ) (r : TextAnswer) where
+module _ (t s : List ℕ) (r : Result (Option TextValue) Refusal) where
   -- an answer without records leaves the slots as they were
   pub leaving : (a b : Answer) → ((ws : List ℕ) → slots_with b ws s ≡ s) → a ≡ b → in_numbers r ≡ b → AnswerAndSlots t a r s s
   leaving a b q e h = record { answer_is = h ∙ sym e; slots_are = rw e (sym (q _)) }

@@ -1,9 +1,10 @@
 -- What the reader of text answers, in numbers.
-use Rattle.std.specs.Prelude.{ℕ, List, ◌++◌, length, drop}
+use Rattle.std.specs.Prelude.{ℕ, List, ◌++◌, length, drop, Option, Some, None, Result, Ok, Err}
 use Rattle.fields.specs.Refusals.{refusal_number}
+use Rattle.fields.specs.declared.Refusal.{Refusal}
 use Rattle.text_meaning.specs.declared.Description.{Description}
 use Rattle.text_meaning.specs.declared.Range.{Range}
-use Rattle.text_meaning.specs.declared.TextAnswer.{TextAnswer}
+use Rattle.text_meaning.specs.declared.TextValue.{TextValue}
 
 -- a range of the tag: where it starts, and its bytes
 pub record Span : Type 0 where
@@ -37,12 +38,12 @@ span_from r = span r.start.0 r.length
 abbrev pub unicode_from : Description → Unicode
 unicode_from d = record { language = d.language; string = span_from d.unicode }
 
-abbrev pub in_numbers : TextAnswer → Answer
-in_numbers (TextAnswer.Text r) = text (span_from r)
-in_numbers (TextAnswer.Desc d) = desc (span_from d.ascii) (unicode_from d)
-in_numbers (TextAnswer.Mluc n) = mluc n
-in_numbers TextAnswer.Absent = absent
-in_numbers (TextAnswer.Refused why) = refused (refusal_number why)
+abbrev pub in_numbers : Result (Option TextValue) Refusal → Answer
+in_numbers (Ok (Some (TextValue.Text r))) = text (span_from r)
+in_numbers (Ok (Some (TextValue.Desc d))) = desc (span_from d.ascii) (unicode_from d)
+in_numbers (Ok (Some (TextValue.Mluc n))) = mluc n
+in_numbers (Ok None) = absent
+in_numbers (Err why) = refused (refusal_number why)
 
 -- what is left in lent slots: the words of the records in front, and everything else as it was; only `mluc` has records
 abbrev pub slots_with : Answer → List ℕ → List ℕ → List ℕ

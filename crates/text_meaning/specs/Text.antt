@@ -1,15 +1,16 @@
 -- Text: what each call must answer, and what it leaves in the lent slots.
-use Rattle.std.specs.Prelude.{ℕ, ◌+◌, ◌-◌, ◌*◌, ◌/◌, ◌≡◌, cond, List, ltb, eqb, length}
+use Rattle.std.specs.Prelude.{ℕ, ◌+◌, ◌-◌, ◌*◌, ◌/◌, ◌≡◌, cond, List, ltb, eqb, length, Option, Result}
 use Rattle.fields.specs.Bytes.{u32_at}
 use Rattle.fields.specs.House.{tag_size}
 use Rattle.fields.specs.Place.{counted_size, counted_tag}
 use Rattle.fields.specs.Tag.{signature_of}
+use Rattle.fields.specs.declared.Refusal.{Refusal}
 use Rattle.fields.specs.declared.Kind.TheVariants.{Text, Desc, Mluc}
 use Rattle.text_meaning.specs.Answer.{Answer, text, desc, mluc, absent, refused, span, nowhere, Unicode, in_numbers, slots_with}
 use Rattle.text_meaning.specs.Cut.{byte_of, unit_of, kept_of}
 use Rattle.text_meaning.specs.Layout.{text_start, ascii_start, ascii_count, ascii_end, unicode_language, unicode_count, unicode_start, unicode_end}
 use Rattle.text_meaning.specs.Mluc.{Fault, header, string, RecordsEnd, whole, stopped, records_asked, records_in, text_record_words, words_in}
-use Rattle.text_meaning.specs.declared.TextAnswer.{TextAnswer}
+use Rattle.text_meaning.specs.declared.TextValue.{TextValue}
 
 -- `text`: the bytes up to the tag's end
 unfoldable pub text_of : List ℕ → Answer
@@ -66,6 +67,6 @@ slots_after profile entry size slots =
     slots_with (string_of profile entry size (length slots)) (words_in (records_in (counted_tag profile entry size)).records) slots
 
 -- what a call answers, and what it leaves of the lent slots
-pub record AnswerAndSlots (t : List ℕ) (answer : Answer) (r : TextAnswer) (before after : List ℕ) : Type 0 where
+pub record AnswerAndSlots (t : List ℕ) (answer : Answer) (r : Result (Option TextValue) Refusal) (before after : List ℕ) : Type 0 where
   pub answer_is : in_numbers r ≡ answer
   pub slots_are : after ≡ slots_with answer (words_in (records_in t).records) before

@@ -2,7 +2,7 @@
 // the code is in the crates `text_mluc` and `text`.
 #![tactic(auto)]
 
-use fields::{InTag, Refusal};
+use fields::InTag;
 
 // A range of the tag, in bytes.
 #[derive(Clone, Copy)]
@@ -19,12 +19,10 @@ pub struct Description {
     pub unicode: Range,
 }
 
-// What the reader of text answers. The records of `mluc` are in the slots.
+// What is read of a tag of text. The records of `mluc` are in the slots.
 #[derive(Clone, Copy)]
-pub enum TextAnswer {
+pub enum TextValue {
     Text(Range),
     Desc(Description),
     Mluc { records: u32 },
-    Absent,
-    Refused(Refusal),
 }
