@@ -114,6 +114,22 @@ module _ (walk : Walk) (limit points : ℕ) (p : List ℕ) (entry size words : �
       (λ l. each FoundIn (ltb (counted_size size) shortest) _ _ (λ _ v. not_refused refl v)
       (λ m v. (ltb-false (length p) (entry + counted_size size) l, ltb-false (counted_size size) shortest m, refl)))
 
+-- what holds of each answer that has a result holds of the one that a call has: zeros stand where a result has no array
+pub lut_each : (P : Answer → Type 0) → ((f : Fields) (m : List ℕ) → P (from_mft record { state = Mft-as-State.value f; matrix = m })) → ((f : Abm) (g m b : List ℕ) → P record { state = abm f; grid = g; matrix = m; bias = b }) → P none → ((n : ℕ) → P (refuse n)) → (walk : Walk) (limit points : ℕ) (p : List ℕ) (entry size words : ℕ) → P (lut_of walk limit points p entry size words)
+unfolding lut_of by_type answer_of value_of
+lut_each P as_mft as_abm missing refused_so walk limit points p entry size words =
+    let t : List ℕ = counted_tag p entry size in
+    each P (ltb (length p) (entry + counted_size size)) _ _ (λ _. refused_so 1)
+    (λ _. each P (ltb (counted_size size) shortest) _ _ (λ _. refused_so 2)
+    (λ _. each P (is_mft t) _ _ (λ _. by t (mft_of points t))
+    (λ _. each P (is_abm t) _ _
+    (λ _. ways_out walk limit t words P missing (λ n _. refused_so n) (λ _ _. refused_so 14) (λ _ _. as_abm _ _ _ _))
+    (λ _. refused_so 3))))
+  where
+    by : (t : List ℕ) (x : Mft-as-State) → P (from_mft (answer_of t x))
+    by t (Mft-as-State.value f) = as_mft f _
+    by t (Mft-as-State.refused n) = refused_so n
+
 -- ---- by its type
 
 either_type : (t : List ℕ) → is_abm t ≡ true → (u32_at t 0 ≡ signature_of Mab) ⊎ (u32_at t 0 ≡ signature_of Mba)

@@ -1,10 +1,10 @@
 -- What the reader of lookup tables answers, in numbers.
-use Rattle.std.specs.Prelude.{ℕ, Bool, List, ◌++◌, length, drop, replicate}
+use Rattle.std.specs.Prelude.{ℕ, Bool, List, ◌++◌, length, drop, replicate, Option, Some, None, Result, Ok, Err}
 use Rattle.fields.specs.Checked.{Checked, good, bad}
 use Rattle.fields.specs.Refusals.{refusal_number}
 use Rattle.lut_mft_meaning.specs.Answer.{Fields, State as Mft-as-State, Answer as Mft-as-Answer, fields_from}
 use Rattle.lut_meaning.specs.declared.AbmTable.{AbmTable}
-use Rattle.lut_meaning.specs.declared.LutAnswer.{LutAnswer}
+use Rattle.fields.specs.declared.Refusal.{Refusal}
 use Rattle.lut_meaning.specs.declared.Lut.{Lut}
 
 -- the numbers of an `mAB ` or `mBA ` tag: direction, channels, where the colour table's data lie, the bytes of an entry, and the curves
@@ -58,16 +58,18 @@ table_from t =
       b = t.b_curves;
     }
 
-abbrev pub state_from : LutAnswer → State
-state_from (LutAnswer.Mft t) = mft (fields_from t)
-state_from (LutAnswer.Abm t) = abm (table_from t)
-state_from LutAnswer.Absent = absent
-state_from (LutAnswer.Refused why) = refused (refusal_number why)
+-- `mft1` and `mft2` have no sixteen grid bytes, and no bias
+abbrev pub in_numbers : Result (Option Lut) Refusal → Answer
+in_numbers (Ok (Some (Lut.Mft m))) =
+    record { state = mft (fields_from m.table); grid = replicate 16 0; matrix = m.matrix; bias = replicate 3 0 }
+in_numbers (Ok (Some (Lut.Abm l))) = record { state = abm (table_from l.table); grid = l.grid; matrix = l.matrix; bias = l.bias }
+in_numbers (Ok None) = none
+in_numbers (Err why) = refuse (refusal_number why)
 
-abbrev pub in_numbers : Lut → Answer
-in_numbers l = record { state = state_from l.answer; grid = l.grid; matrix = l.matrix; bias = l.bias }
+abbrev pub state_from : Result (Option Lut) Refusal → State
+state_from r = (in_numbers r).state
 
--- what is answered of `mft1` and `mft2`: no sixteen grid bytes, and no bias
+-- what is answered of `mft1` and `mft2`
 abbrev pub mft_state : Mft-as-State → State
 mft_state (Mft-as-State.value f) = mft f
 mft_state (Mft-as-State.refused n) = refused n

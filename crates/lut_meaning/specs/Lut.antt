@@ -1,5 +1,5 @@
 -- Lookup tables: what each call must answer, and what it leaves in the lent slots.
-use Rattle.std.specs.Prelude.{ℕ, ◌+◌, ◌≡◌, Bool, cond, ◌||◌, List, ltb, eqb, length}
+use Rattle.std.specs.Prelude.{ℕ, ◌+◌, ◌≡◌, Bool, cond, ◌||◌, List, ltb, eqb, length, Option, Result}
 use Rattle.fields.specs.Bytes.{u32_at}
 use Rattle.fields.specs.Place.{counted_size, counted_tag}
 use Rattle.fields.specs.Tag.{signature_of}
@@ -12,6 +12,7 @@ use Rattle.lut_run_meaning.specs.Run.{records_of}
 use Rattle.lut_meaning.specs.Abm.{abm_of}
 use Rattle.lut_meaning.specs.Answer.{Answer, refuse, from_mft, in_numbers, slots_with}
 use Rattle.lut_meaning.specs.Parts.{curves_of}
+use Rattle.fields.specs.declared.Refusal.{Refusal}
 use Rattle.lut_meaning.specs.declared.Lut.{Lut}
 
 -- whether it is lutAToBType or lutBToAType
@@ -39,6 +40,6 @@ slots_after walk limit points profile entry size slots =
     slots_with (lut_of walk limit points profile entry size (length slots)).state (records_of (curves_of walk limit t)) slots
 
 -- what a call answers, and what it leaves of the lent slots
-pub record AnswerAndSlots (walk : Walk) (limit : ℕ) (t : List ℕ) (answer : Answer) (r : Lut) (before after : List ℕ) : Type 0 where
+pub record AnswerAndSlots (walk : Walk) (limit : ℕ) (t : List ℕ) (answer : Answer) (r : Result (Option Lut) Refusal) (before after : List ℕ) : Type 0 where
   pub answer_is : in_numbers r ≡ answer
   pub slots_are : after ≡ slots_with answer.state (records_of (curves_of walk limit t)) before

@@ -1,9 +1,9 @@
-// What the reader of lookup tables answers: the types here, what each call must answer in specs/, and what follows from it in proofs/. No
-// function: the code is in the crate `lut`.
+// Lookup tables: the types here, what each call must answer in specs/, and what follows from it in proofs/. Their reader answers
+// `Result<Option<Lut>, Refusal>`. No function: the code is in the crate `lut`.
 #![tactic(auto)]
 
-use fields::{InTag, Refusal};
-use lut_mft_meaning::MftTable;
+use fields::InTag;
+use lut_mft_meaning::Mft;
 
 // What an `mAB ` or `mBA ` tag says: its direction and channels, where the data of its colour table lie and the bytes of an entry (zeros
 // without one), and how many curves each run has. The records of the curves stand in the lent slots.
@@ -20,20 +20,18 @@ pub struct AbmTable {
     pub b_curves: u32,
 }
 
+// All that such a tag says: besides, the grid bytes as they stand, and the matrix and bias numbers, signed words in two's complement.
 #[derive(Clone, Copy)]
-pub enum LutAnswer {
-    Mft(MftTable),
-    Abm(AbmTable),
-    Absent,
-    Refused(Refusal),
-}
-
-// The answer, and beside it what is an array: the grid bytes as they stand, and the matrix and bias numbers, signed words in two's
-// complement. All of them are zeros unless the answer is a value.
-#[derive(Clone, Copy)]
-pub struct Lut {
-    pub answer: LutAnswer,
+pub struct Abm {
+    pub table: AbmTable,
     pub grid: [u8; 16],
     pub matrix: [u32; 9],
     pub bias: [u32; 3],
+}
+
+// What a lookup table says, by its type.
+#[derive(Clone, Copy)]
+pub enum Lut {
+    Mft(Mft),
+    Abm(Abm),
 }

@@ -6,16 +6,16 @@ use Prim.Native.Nat.{ℕ}
 use denote.Ref.{Bor}
 use Rattle.fields.proofs.Once.{once}
 use Rattle.lut_view_meaning.specs.Answer.{Answer, in_numbers, result_from}
-use Rattle.lut_view_meaning.specs.declared.EntryAnswer.{EntryAnswer}
+use Rattle.std.specs.Prelude.{Option, Some, None}
 use Rattle.lut_view_meaning.specs.declared.TableNumbers.{TableNumbers}
 use Rattle.lut_view_meaning.specs.declared.TableView.{TableView}
 
-back : (r : EntryAnswer) → result_from (in_numbers r) ≡ r
-back (EntryAnswer.Value n) = refl
-back EntryAnswer.Absent = refl
+back : (r : Option ℕ) → result_from (in_numbers r) ≡ r
+back (Some n) = refl
+back None = refl
 
 -- two results that stand for the same answer are one
-pub unique : (a : Answer) (r s : EntryAnswer) → in_numbers r ≡ a → in_numbers s ≡ a → r ≡ s
+pub unique : (a : Answer) (r s : Option ℕ) → in_numbers r ≡ a → in_numbers s ≡ a → r ≡ s
 unique = once in_numbers result_from back
 
 -- two views of one tag by the same numbers are one

@@ -1,6 +1,5 @@
 -- What is read at a grid index, in numbers.
-use Rattle.std.specs.Prelude.{ℕ}
-use Rattle.lut_view_meaning.specs.declared.EntryAnswer.{EntryAnswer}
+use Rattle.std.specs.Prelude.{ℕ, Option, Some, None}
 
 -- the entry as it is stored, or none
 pub data Answer : Type 0 where
@@ -8,11 +7,11 @@ pub data Answer : Type 0 where
   absent : Answer
 
 -- the numbers that a result stands for
-abbrev pub in_numbers : EntryAnswer → Answer
-in_numbers (EntryAnswer.Value n) = value n
-in_numbers EntryAnswer.Absent = absent
+abbrev pub in_numbers : Option ℕ → Answer
+in_numbers (Some n) = value n
+in_numbers None = absent
 
 -- and the result that stands for numbers
-abbrev pub result_from : Answer → EntryAnswer
-result_from (value n) = EntryAnswer.Value n
-result_from absent = EntryAnswer.Absent
+abbrev pub result_from : Answer → Option ℕ
+result_from (value n) = Some n
+result_from absent = None

@@ -1,5 +1,6 @@
 // A view of the colour table of a lookup table: the types here, what each call must answer in specs/, and what follows from it in proofs/.
-// No function: the code is in the crate `lut_view`.
+// What is read at a grid index is an `Option<u16>`: the entry as it is stored, in one byte or two. No function: the code is in the crate
+// `lut_view`.
 #![tactic(auto)]
 
 use fields::InTag;
@@ -31,11 +32,4 @@ pub const NO_NUMBERS: TableNumbers = TableNumbers {
 pub struct TableView<'a> {
     pub tag: &'a [u8],
     pub numbers: TableNumbers,
-}
-
-// What is read at a grid index: the entry as it is stored, in one byte or two.
-#[derive(Clone, Copy)]
-pub enum EntryAnswer {
-    Value(u16),
-    Absent,
 }
