@@ -1,17 +1,22 @@
--- What the code found of a curve by its type alone.
-use Rattle.std.specs.Prelude.{ℕ, List}
+-- What the code found of a curve, and the shape that it is.
+use Rattle.std.specs.Prelude.{ℕ, List, map, Result, Ok, Err}
+use Rattle.fields.specs.Bytes.{u32_at}
 use Rattle.fields.specs.Checked.{Checked, good, bad}
-use Rattle.fields.specs.Bytes.{words_at}
 use Rattle.fields.specs.Refusals.{refusal_number}
-use Rattle.curve_meaning.specs.Layout.{parameter_count}
-use Rattle.curve_meaning.specs.Shape.{Shape, para, table_shape}
+use Rattle.fields.specs.declared.Refusal.{Refusal}
+use Rattle.curve_meaning.specs.Kinds.{type_number}
+use Rattle.curve_meaning.specs.Shape.{Shape, empty, table, para}
 use Rattle.curve.specs.declared.Found.{Found}
 
--- what a `curv` is by its entries, and a `para` t by its function type
-abbrev pub table_from : Found → Checked Shape
-table_from (Found.Number n) = good (table_shape n)
-table_from (Found.Refused why) = bad (refusal_number why)
+-- the number that four bytes are
+abbrev pub number_of : List ℕ → ℕ
+number_of four = u32_at four 0
 
-abbrev pub para_from : List ℕ → Found → Checked Shape
-para_from t (Found.Number type) = good (para type (words_at t 12 (parameter_count type)))
-para_from t (Found.Refused why) = bad (refusal_number why)
+abbrev pub shape_of : Found → Shape
+shape_of Found.Empty = empty
+shape_of (Found.Table n) = table n
+shape_of (Found.Function function parameters) = para (type_number function) (map number_of parameters.now)
+
+abbrev pub found_checked : Result Found Refusal → Checked Shape
+found_checked (Ok found) = good (shape_of found)
+found_checked (Err why) = bad (refusal_number why)
