@@ -1,16 +1,17 @@
 -- The pieces of a number's text make the whole.
 -- Assumes nothing.
-use Prim.Native.Nat.{ℕ, ◌+◌, ◌-◌, ◌%◌, ◌^◌, ◌≤◌, ◌<◌}
+use Prim.Native.Nat.{ℕ, ◌+◌, ◌-◌, ◌^◌, ◌≤◌, ◌<◌}
 use native.Mathlib.Omega.{arith}
-use mathlib.Core.Path.{◌≡◌, refl, sym, ap, ◌∙◌}
+use mathlib.Core.Path.{◌≡◌, sym, ap, ◌∙◌}
 use mathlib.Core.List.{List, [], ◌∷◌}
 use native.Mathlib.Numerals.{add-one}
 use lib.ListN.{length, get_or, drop, drop_of_length-le}
 use lib.Seq.{drop-cons}
-use borrow.Author.Tests.{lt-ltb, le-ltb, le-leb, lt-leb}
+use borrow.Author.Tests.{lt-ltb, le-ltb}
+use Rattle.std.proofs.lemmas.List.{map-id}
 use Rattle.io.specs.Digits.{last_digits, IsDigitCount}
 use Rattle.fields.specs.Bytes.{signed}
-use Rattle.lines.specs.Text.{Wrote, number, numeral, row_from, word_text}
+use Rattle.lines.specs.Text.{Wrote, WroteNumbers, numbers, number, numeral, row_from}
 use Rattle.lines.proofs.Writing.{joined, nothing, wrote_length}
 use Rattle.lines.proofs.Digits.{is_decimal}
 
@@ -32,19 +33,9 @@ from_half l m o at mid end before w h g v u =
     let e : 2 ^ 32 - 1 - w + 1 ≡ 2 ^ 32 - w = omega arith in
     rw (le-ltb w (2 ^ 31) h, e) (joined v u)
 
--- ---- a word of a row
-
-pub before_signed : (l o : List ℕ) (at end from to i w : ℕ) → i < from → Wrote l o at end (number 32 w) → Wrote l o at end (word_text from to i w)
-unfolding word_text
-before_signed l o at end from to i w h v = rw (lt-ltb _ _ h) v
-
-pub behind_signed : (l o : List ℕ) (at end from to i w : ℕ) → from ≤ i → to ≤ i → Wrote l o at end (number 32 w) → Wrote l o at end (word_text from to i w)
-unfolding word_text
-behind_signed l o at end from to i w h g v = rw (le-ltb _ _ h, le-leb _ _ g) v
-
-pub among_signed : (l o : List ℕ) (at end from to i w k : ℕ) → from ≤ i → i < to → k ≡ w % 2 ^ 32 → Wrote l o at end (numeral 32 (signed k)) → Wrote l o at end (word_text from to i w)
-unfolding word_text
-among_signed l o at end from to i w k h g e v = rw (le-ltb _ _ h, lt-leb _ _ g) (rw e at v)
+-- numbers that convert to themselves are written as they are
+pub wrote_numbers : {l m ns : List ℕ} {at end : ℕ} → WroteNumbers (λ (x y : ℕ). y ≡ x) l m at end ns → Wrote l m at end (numbers ns)
+wrote_numbers {l} {m} {ns} {at} {end} w = rw map-id at (w.by (λ x. x) (λ x y e. e))
 
 -- ---- the loop that writes a row: what is left to write makes the whole
 
@@ -52,9 +43,6 @@ module _ (text : ℕ → ℕ → List ℕ) where
   pub record Printing (l : List ℕ) (at first : ℕ) (ws m : List ℕ) (end i : ℕ) : Type 0 where
     pub same : length m ≡ length l
     pub whole : {n : List ℕ} {r : ℕ} → Wrote m n end r (row_from text i (drop i ws)) → Wrote l n at r (row_from text first (drop first ws))
-
-  pub row_begins : (l : List ℕ) (at first : ℕ) (ws : List ℕ) → Printing l at first ws l at first
-  row_begins l at first ws = record { same = refl; whole = λ w. w }
 
   pub row_turns : (l : List ℕ) (at first : ℕ) (ws m : List ℕ) (end i : ℕ) (n : List ℕ) (next : ℕ) → Printing l at first ws m end i → i < length ws → Wrote m n end next (text i (get_or ws i 0)) → Printing l at first ws n next (i + 1)
   unfolding row_from

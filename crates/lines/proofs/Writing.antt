@@ -8,10 +8,10 @@ use mathlib.Core.List.{List, [], ◌++◌}
 use mathlib.Core.Bool.{Bool, true, false}
 use mathlib.Core.Logic.{◌⊎◌, inl, inr}
 use lib.Dec.{leb}
-use lib.ListN.{length, get_or, set, length-append}
+use lib.ListN.{length, length-append}
 use lib.Seq.{sets, length-sets}
 use borrow.Author.Tests.{leb-true, leb-false}
-use Rattle.fields.proofs.Putting.{Putting, begins as stores-begin, turns as stores-turn, full as stores-full, done as stores-done}
+use Rattle.fields.proofs.Putting.{Putting, full as stores-full, done as stores-done}
 use Rattle.fields.proofs.Stores.{sets_append, sets_past}
 use Rattle.lines.specs.Text.{Wrote}
 
@@ -73,19 +73,7 @@ pub record Writing (l : List ℕ) (at : ℕ) (bytes l' : List ℕ) (end i : ℕ)
   pub stored : Putting l at bytes l' end i
 
 module _ (l : List ℕ) (at : ℕ) (bytes : List ℕ) where
-  pub begins : Writing l at bytes l at 0
-  begins = record { within = omega arith; next = omega arith; room = omega arith; stored = stores-begin l at bytes }
-
   module _ (l' : List ℕ) (end i : ℕ) (w : Writing l at bytes l' end i) where
-    pub turns : i < length bytes → end < length l' → Writing l at bytes (set l' end (get_or bytes i 0)) (end + 1) (i + 1)
-    turns h g =
-        record {
-          within = omega arith;
-          next = omega (arith, w.next);
-          room = omega (arith, w.next, w.stored.same);
-          stored = stores-turn l at bytes l' end i w.stored (get_or bytes i 0) h refl;
-        }
-
     -- where no room is left, or nothing to write, the end is that of the text
     the_end : (length bytes ≤ i) ⊎ (length l' ≤ end) → end ≡ at + min (length bytes) (length l - at)
     the_end s =

@@ -1,5 +1,5 @@
 -- Text, as a list of ASCII codes, and what it means to have written it.
-use Rattle.std.specs.Prelude.{ℕ, zero, suc, ◌+◌, ◌-◌, ◌/◌, ◌%◌, ◌^◌, min, ◌≡◌, cond, ◌||◌, List, [], ◌∷◌, ◌++◌, ltb, leb, ℤ, pos, negsuc, length}
+use Rattle.std.specs.Prelude.{ℕ, zero, suc, ◌+◌, ◌-◌, ◌/◌, ◌%◌, ◌^◌, min, ◌≡◌, cond, ◌||◌, List, [], ◌∷◌, ◌++◌, ltb, leb, ℤ, pos, negsuc, length, map}
 use Rattle.std.proofs.lemmas.List.Edits.{sets}
 use Rattle.fields.specs.Bytes.{signed}
 
@@ -39,3 +39,7 @@ word_text from to i w = cond (ltb i from || leb to i) (number 32 w) (numeral 32 
 pub record Wrote (before after : List ℕ) (at end : ℕ) (text : List ℕ) : Type 0 where
   pub written : after ≡ sets before at text
   pub ends : end ≡ at + min (length text) (length before - at)
+
+-- numbers of any type, each written behind a space as the number that it converts to
+pub record WroteNumbers {W : Type 0} (converts : W → ℕ → Type 0) (before after : List ℕ) (at end : ℕ) (words : List W) : Type 0 where
+  pub by : (number : W → ℕ) → ((x : W) (n : ℕ) → converts x n → n ≡ number x) → Wrote before after at end (numbers (map number words))

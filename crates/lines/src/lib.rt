@@ -3,21 +3,19 @@
 
 ghost use Rattle.std.specs.Prelude.{◌%◌, ◌^◌, ◌≡◌, drop};
 ghost use Rattle.fields.specs.Bytes.{signed};
-ghost use Rattle.lines.specs.Text.{Wrote, number, numeral, row_from, numbers, word_text};
+ghost use Rattle.lines.specs.Text.{Wrote, WroteNumbers, number, numeral, row_from, word_text};
 
 // Writes `bytes` from `at` on, and answers where they end.
 pub fn put(out: &mut [u8], at: usize, bytes: &[u8]) -> usize
     ensures { Wrote out.old out.new at result bytes.now }
 {
     let mut end = at;
-    let mut i = 0;
-    while i < bytes.len() {
+    for byte in bytes {
         if out.len() <= end {
             return end;
         }
-        out[end] = bytes[i];
+        out[end] = *byte;
         end += 1;
-        i += 1;
     }
     end
 }
@@ -26,8 +24,7 @@ pub fn put(out: &mut [u8], at: usize, bytes: &[u8]) -> usize
 pub fn put_number(out: &mut [u8], at: usize, before: u8, n: u64) -> usize
     ensures { Wrote out.old out.new at result (number before n) }
 {
-    let first = [before];
-    let next = put(out, at, &first);
+    let next = put(out, at, &[before]);
     let mut digits = [0u8; 20];
     let k = io::decimal(n, &mut digits);
     put(out, next, &digits[..k])
@@ -40,28 +37,20 @@ pub fn put_signed(out: &mut [u8], at: usize, before: u8, word: u32) -> usize
     if word < 0x8000_0000 {
         return put_number(out, at, before, word as u64);
     }
-    let first = [before];
-    let next = put(out, at, &first);
+    let next = put(out, at, &[before]);
     put_number(out, next, b'-', 0x1_0000_0000 - word as u64)
 }
 
-fn low_half(word: u64) -> u32
-    ensures { result ≡ word % 2 ^ 32 }
-{
-    (word % 0x1_0000_0000) as u32
-}
-
 // Writes a space and the word at place i, which is signed from `from` up to `to`.
+#[tactic(auto, unfolding(crate::specs::Text::word_text))]
 fn put_word(out: &mut [u8], at: usize, from: usize, to: usize, i: usize, word: u64) -> usize
     ensures { Wrote out.old out.new at result (word_text from to i word) }
 {
-    if i < from {
-        return put_number(out, at, b' ', word);
+    if i < from || to <= i {
+        put_number(out, at, b' ', word)
+    } else {
+        put_signed(out, at, b' ', (word % 0x1_0000_0000) as u32)
     }
-    if to <= i {
-        return put_number(out, at, b' ', word);
-    }
-    put_signed(out, at, b' ', low_half(word))
 }
 
 // Writes the words from `first` on, each behind a space. Those from `from` up to `to` are signed.
@@ -76,36 +65,19 @@ pub fn put_words(
     ensures { Wrote out.old out.new at result (row_from (word_text from to) first (drop first words.now)) }
 {
     let mut end = at;
-    let mut i = first;
-    while i < words.len() {
+    for i in first..words.len() {
         end = put_word(out, end, from, to, i, words[i]);
-        i += 1;
     }
     end
 }
 
 // Writes each of the words as a number behind a space.
-pub fn put_numbers(out: &mut [u8], at: usize, words: &[u32]) -> usize
-    ensures { Wrote out.old out.new at result (numbers words.now) }
+pub fn put_numbers<W: Copy + Into<u64>>(out: &mut [u8], at: usize, words: &[W]) -> usize
+    ensures { WroteNumbers W.converts out.old out.new at result words.now }
 {
     let mut end = at;
-    let mut i = 0;
-    while i < words.len() {
-        end = put_number(out, end, b' ', words[i] as u64);
-        i += 1;
-    }
-    end
-}
-
-// The same of numbers of two bytes.
-pub fn put_short_numbers(out: &mut [u8], at: usize, shorts: &[u16]) -> usize
-    ensures { Wrote out.old out.new at result (numbers shorts.now) }
-{
-    let mut end = at;
-    let mut i = 0;
-    while i < shorts.len() {
-        end = put_number(out, end, b' ', shorts[i] as u64);
-        i += 1;
+    for word in words {
+        end = put_number(out, end, b' ', (*word).into());
     }
     end
 }

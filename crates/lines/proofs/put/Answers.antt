@@ -1,17 +1,8 @@
 -- `lines::put` meets its contract: what is left to write makes of the buffer what all the bytes make of it.
 -- Assumes nothing.
 use borrow.Author.Rules.{rules}
-use Rattle.lines.proofs.Writing.{begins, turns, full, done}
+use Rattle.lines.proofs.Writing.{full}
 use Rattle.lines.proofs.put.Goals as goal
-
-pub loop-i-init : goal.loop-i-init
-loop-i-init c = search (rules, begins)
 
 pub returns-then-out-end : goal.returns-then-out-end
 returns-then-out-end c = search (rules, full)
-
-pub loop-i-preserved : goal.loop-i-preserved
-loop-i-preserved c = search (rules, turns)
-
-pub returns : goal.returns
-returns c = search (rules, done)

@@ -1,8 +1,6 @@
 -- `lines::put_numbers` meets its contract: what is left to write makes the whole.
 -- Assumes nothing.
-use Prim.Native.Nat.{ℕ, ◌-◌}
-use mathlib.Core.List.{List}
-use lib.ListN.{length}
+use Rattle.std.proofs.Common.{◌≡◌, ℕ, List, map}
 use Rattle.lines.specs.Text.{number}
 use Rattle.lines.proofs.Laws.{Printing}
 use Rattle.lines.proofs.put_numbers.Given as goal
@@ -10,8 +8,7 @@ use Rattle.lines.proofs.put_numbers.Given as goal
 abbrev pub spaced : ℕ → ℕ → List ℕ
 spaced i n = number 32 n
 
-abbrev pub invariant-loop-i : goal.invariant-loop-i
-invariant-loop-i l = Printing spaced l.initial.out l.at 0 l.words l.out l.end l.i
-
-abbrev pub decreases-loop-i : goal.decreases-loop-i
-decreases-loop-i l = length l.words - l.i
+-- by each way to number the words that agrees with their conversion
+abbrev pub invariant-loop-word : goal.invariant-loop-word
+invariant-loop-word g l =
+    (n : _ → ℕ) → ((x : _) (y : ℕ) → g.W.Into.converts x y → y ≡ n x) → Printing spaced l.fn.out l.at 0 (map n l.words) l.out l.end l.word-index
