@@ -1,7 +1,7 @@
 -- What an evaluation is answered with, in numbers.
-use Rattle.std.specs.Prelude.{ℕ}
+use Rattle.std.specs.Prelude.{ℕ, Result, Ok, Err}
+use Rattle.fields.specs.declared.Refusal.{Refusal}
 use Rattle.fields.specs.Refusals.{refusal_number}
-use Rattle.evaluate_meaning.specs.declared.Evaluation.{Evaluation}
 
 -- so many results, or the number of a refusal
 pub data Answer : Type 0 where
@@ -9,6 +9,6 @@ pub data Answer : Type 0 where
   refused : ℕ → Answer
 
 -- the numbers that a result stands for
-abbrev pub in_numbers : Evaluation → Answer
-in_numbers (Evaluation.Value n) = value n
-in_numbers (Evaluation.Refused r) = refused (refusal_number r)
+abbrev pub in_numbers : Result ℕ Refusal → Answer
+in_numbers (Ok n) = value n
+in_numbers (Err r) = refused (refusal_number r)

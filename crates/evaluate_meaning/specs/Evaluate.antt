@@ -1,6 +1,7 @@
 -- What each call must answer, and what it leaves in the lent buffer: of one pixel, and of a row of them, whose coordinates and results stand
 -- pixel after pixel. The table is the one that a view shows by the same numbers (`table_by`).
-use Rattle.std.specs.Prelude.{ℕ, zero, suc, ◌+◌, ◌*◌, ◌/◌, ◌%◌, ◌≡◌, Bool, cond, ◌||◌, not, List, [], ◌++◌, ltb, eqb, length, take, drop}
+use Rattle.std.specs.Prelude.{ℕ, zero, suc, ◌+◌, ◌*◌, ◌/◌, ◌%◌, ◌≡◌, Bool, cond, ◌||◌, not, Result, List, [], ◌++◌, ltb, eqb, length, take, drop}
+use Rattle.fields.specs.declared.Refusal.{Refusal}
 use Rattle.fields.specs.Refusals.{no_colour_table, too_few_slots}
 use Rattle.fields.specs.Some.{some}
 use Rattle.lut_clut_meaning.specs.Clut.{is_flat}
@@ -9,7 +10,6 @@ use Rattle.lut_view_meaning.specs.View.{table_by}
 use Rattle.lut_view_meaning.specs.declared.TableNumbers.{TableNumbers}
 use Rattle.evaluate_meaning.specs.Answer.{Answer, value, refused, in_numbers}
 use Rattle.evaluate_meaning.specs.Colour.{colour}
-use Rattle.evaluate_meaning.specs.declared.Evaluation.{Evaluation}
 
 -- not 1 to 4 inputs, no output, or entries of neither one byte nor two
 unfoldable pub odd_numbers : TableNumbers → Bool
@@ -41,7 +41,7 @@ unfoldable pub pixel_after : List ℕ → TableNumbers → List ℕ → List ℕ
 pixel_after t n xs words = written (pixel_answer t n xs (length words)) (colour t (table_by t n) xs) words
 
 -- what a call promises: its answer, and the words of the buffer after it
-pub record Evaluated (t : List ℕ) (n : TableNumbers) (xs words : List ℕ) (r : Evaluation) (after : List ℕ) : Type 0 where
+pub record Evaluated (t : List ℕ) (n : TableNumbers) (xs words : List ℕ) (r : Result ℕ Refusal) (after : List ℕ) : Type 0 where
   pub answer : in_numbers r ≡ pixel_answer t n xs (length words)
   pub left : after ≡ pixel_after t n xs words
 
@@ -66,6 +66,6 @@ row_answer t n xs room =
 unfoldable pub row_after : List ℕ → TableNumbers → List ℕ → List ℕ → List ℕ
 row_after t n xs words = written (row_answer t n xs (length words)) (colours_of t n xs (pixels_of n xs)) words
 
-pub record RowEvaluated (t : List ℕ) (n : TableNumbers) (xs words : List ℕ) (r : Evaluation) (after : List ℕ) : Type 0 where
+pub record RowEvaluated (t : List ℕ) (n : TableNumbers) (xs words : List ℕ) (r : Result ℕ Refusal) (after : List ℕ) : Type 0 where
   pub answer : in_numbers r ≡ row_answer t n xs (length words)
   pub left : after ≡ row_after t n xs words
