@@ -2,8 +2,7 @@
 -- Assumes nothing.
 use Prim.Native.Nat.{ℕ, ◌+◌, ◌*◌, ◌^◌, ◌≤◌, ◌<◌}
 use native.Mathlib.Omega.{arith}
-use native.Mathlib.Numerals.{add-one}
-use native.Mathlib.Nat.{mul-le-mul, pow-zero, pow-suc}
+use native.Mathlib.Nat.{mul-le-mul}
 use mathlib.Core.Path.{◌≡◌, refl, sym, ◌∙◌}
 use mathlib.Core.Bool.{Bool, true, false}
 use mathlib.Core.List.{List}
@@ -19,12 +18,10 @@ use Rattle.fields.specs.Refusals.{refusal_number}
 use Rattle.fields.specs.Tag.{signature_of}
 use Rattle.fields.specs.declared.Kind.TheVariants.{Mft1}
 use Rattle.fields.specs.declared.Refusal.{Refusal}
-use Rattle.lut_mft_meaning.specs.Answer.{State, value, refused, state_from, fields_of, answer_of}
+use Rattle.lut_mft_meaning.specs.Answer.{State, value, refused, fields_from, fields_of, answer_of}
 use Rattle.lut_mft_meaning.specs.Layout.{is_wide, is_mft, shortest, inputs, grid_points, input_entries_of, output_entries_of, entry_size_of, tables_start, entries_at, colour_table}
 use Rattle.lut_mft_meaning.specs.Mft.{outside, most_table_entries, bad_entries, bad_channels, bad_numbers, tables_of, numbers_of, mft_of}
-use Rattle.lut_mft_meaning.specs.declared.MftAnswer.{MftAnswer}
 use Rattle.lut_mft_meaning.specs.declared.MftTable.{MftTable}
-use Rattle.lut_mft_meaning.proofs.Inside.{power_most}
 use Rattle.lut_mft_meaning.proofs.Laid.{good}
 use Rattle.lut_mft.specs.Sized.{Sized}
 
@@ -125,23 +122,6 @@ pub ruleset number-laws = (numbers_entries, numbers_channels, numbers_grid)
 
 -- ---- products and sums
 
-module _ (g p i : ℕ) (e : p ≡ g ^ i) where
-  pub power_turns : p * g ≡ g ^ (i + 1)
-  power_turns = rw (e, add-one) (sym (pow-suc g i))
-
-  module _ (n : ℕ) (l : i < n) (m : n ≤ 4) (b : g < 256) where
-    pub power_stays : p * g < 2 ^ 32
-    power_stays = let j : i + 1 ≤ 4 = omega arith in rw power_turns (omega (arith, power_most g (i + 1) b j))
-
-    pub power_fits : Fits w64 (p * g)
-    power_fits = record { fits = omega (arith, power_stays) }
-
-pub power_begins : (g : ℕ) → 1 ≡ g ^ 0
-power_begins g = sym (pow-zero g)
-
-pub power_ends : (g p i n : ℕ) → p ≡ g ^ i → i ≤ n → n ≤ i → p ≡ g ^ n
-power_ends g p i n e l m = let k : i ≡ n = omega arith in rw k at e
-
 module _ (v c s : ℕ) (vl : v < 2 ^ 32) (cl : c < 256) where
   channels_low : v * c ≤ 0xFFFFFFFF * 255
   channels_low = let a : v ≤ 0xFFFFFFFF = omega arith in let b : c ≤ 255 = omega arith in mul-le-mul a b
@@ -228,11 +208,11 @@ pub ruleset read-laws = (type_short, type_other, type_cut, type_read)
 
 -- ---- the matrix beside it
 
-module _ (t : List ℕ) (s : State) (r : MftAnswer) (h : state_from r ≡ s) where
-  pub with_matrix_lem : (table : MftTable) → r ≡ MftAnswer.Value table → (m : List ℕ) → m ≡ words_at t 12 9 → record { state = state_from (MftAnswer.Value table); matrix = m } ≡ answer_of t s
+module _ (t : List ℕ) (s : State) where
+  pub with_matrix_lem : (table : MftTable) → value (fields_from table) ≡ s → (m : List ℕ) → m ≡ words_at t 12 9 → record { state = value (fields_from table); matrix = m } ≡ answer_of t s
   unfolding answer_of
-  with_matrix_lem table e m w = rw (← h, e, w)
+  with_matrix_lem table e m w = rw (← e, w)
 
-  pub without_matrix : (why : Refusal) → r ≡ MftAnswer.Refused why → record { state = refused (refusal_number why); matrix = replicate 9 0 } ≡ answer_of t s
+  pub without_matrix : (why : Refusal) → refused (refusal_number why) ≡ s → record { state = refused (refusal_number why); matrix = replicate 9 0 } ≡ answer_of t s
   unfolding answer_of
-  without_matrix why e = rw (← h, e)
+  without_matrix why e = rw (← e)

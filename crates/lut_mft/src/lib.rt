@@ -24,7 +24,7 @@ ghost use Rattle.lut_mft_meaning.specs.Mft.{outside, bad_entries, bad_channels, 
 ghost use Rattle.lut_mft.specs.Sized.{Sized};
 
 use fields::{InTag, Kind, Refusal};
-pub use lut_mft_meaning::{Mft, MftAnswer, MftTable};
+pub use lut_mft_meaning::{Mft, MftTable};
 
 const INPUTS: InTag = InTag(8);
 
@@ -61,10 +61,7 @@ fn is_wide(tag: &[u8]) -> bool
 pub fn is_mft(tag: &[u8]) -> bool
     ensures { result ≡ is_mft tag.now }
 {
-    if fields::u32_at(tag, InTag(0)) == Kind::MFT1 {
-        return true;
-    }
-    is_wide(tag)
+    fields::u32_at(tag, InTag(0)) == Kind::MFT1 || is_wide(tag)
 }
 
 // How many entries a channel has in the table whose number of them stands at `at`; 256 in `mft1`.
@@ -97,19 +94,14 @@ fn tables_start(tag: &[u8]) -> u32
 fn is_outside(x: u16, low: u16, high: u16) -> bool
     ensures { result ≡ outside low x high }
 {
-    if x < low {
-        return true;
-    }
-    high < x
+    x < low || high < x
 }
 
 fn has_bad_entries(tag: &[u8]) -> bool
     ensures { result ≡ bad_entries tag.now }
 {
-    if is_outside(entries(tag, INPUT_ENTRIES), 2, MOST_TABLE_ENTRIES) {
-        return true;
-    }
-    is_outside(entries(tag, OUTPUT_ENTRIES), 2, MOST_TABLE_ENTRIES)
+    is_outside(entries(tag, INPUT_ENTRIES), 2, MOST_TABLE_ENTRIES)
+        || is_outside(entries(tag, OUTPUT_ENTRIES), 2, MOST_TABLE_ENTRIES)
 }
 
 fn has_bad_channels(tag: &[u8]) -> bool
@@ -117,57 +109,27 @@ fn has_bad_channels(tag: &[u8]) -> bool
 {
     let inputs = fields::u8_at(tag, INPUTS);
     let outputs = fields::u8_at(tag, OUTPUTS);
-    if is_outside(inputs as u16, 1, 4) {
-        return true;
-    }
-    if is_outside(outputs as u16, 1, 4) {
-        return true;
-    }
-    if inputs == 3 {
-        return false;
-    }
-    if outputs == 3 {
-        return false;
-    }
-    true
+    is_outside(u16::from(inputs), 1, 4)
+        || is_outside(u16::from(outputs), 1, 4)
+        || (inputs != 3 && outputs != 3)
 }
 
 // Whether a number is one that no table has: of entries, of channels or of grid points.
 fn has_bad_numbers(tag: &[u8]) -> bool
     ensures { result ≡ bad_numbers tag.now }
 {
-    if has_bad_entries(tag) {
-        return true;
-    }
-    if has_bad_channels(tag) {
-        return true;
-    }
-    fields::u8_at(tag, GRID_POINTS) < 2
-}
-
-// A grid byte to the power of at most four channels: 255^4 fits 32 bits.
-fn power(grid: u8, n: u8) -> u32
-    requires { n ≤ 4 }
-    ensures { result ≡ grid ^ n }
-{
-    let mut p: u64 = 1;
-    let mut i: u8 = 0;
-    while i < n {
-        p = p * (grid as u64);
-        i += 1;
-    }
-    p as u32
+    has_bad_entries(tag) || has_bad_channels(tag) || fields::u8_at(tag, GRID_POINTS) < 2
 }
 
 // The bytes of a table of so many values for each channel. Those of 255^4 points need 35 bits.
 fn table_length(values: u32, channels: u8, size: u8) -> u64
     ensures { Sized (values * channels * size) result }
 {
-    (values as u64) * (channels as u64) * (size as u64)
+    u64::from(values) * u64::from(channels) * u64::from(size)
 }
 
 // The three tables of a tag with so many grid points, one behind the other.
-fn find_tables(tag: &[u8], points: u32) -> MftAnswer
+fn find_tables(tag: &[u8], points: u32) -> Result<MftTable, Refusal>
     requires { points ≡ points_of (colour_table tag.now) }
     ensures { state_from result ≡ tables_of tag.now }
 {
@@ -176,16 +138,16 @@ fn find_tables(tag: &[u8], points: u32) -> MftAnswer
     let outputs = fields::u8_at(tag, OUTPUTS);
     let input_entries = entries(tag, INPUT_ENTRIES);
     let output_entries = entries(tag, OUTPUT_ENTRIES);
-    let input_start = tables_start(tag) as u64;
-    let input_length = table_length(input_entries as u32, inputs, entry_size);
+    let input_start = u64::from(tables_start(tag));
+    let input_length = table_length(u32::from(input_entries), inputs, entry_size);
     let clut_length = table_length(points, outputs, entry_size);
-    let output_length = table_length(output_entries as u32, outputs, entry_size);
+    let output_length = table_length(u32::from(output_entries), outputs, entry_size);
     let clut_start = input_start + input_length;
     let output_start = clut_start + clut_length;
     if (tag.len() as u64) < output_start + output_length {
-        return MftAnswer::Refused(Refusal::TagTooShort);
+        return Err(Refusal::TagTooShort);
     }
-    MftAnswer::Value(MftTable {
+    Ok(MftTable {
         entry_size,
         inputs,
         outputs,
@@ -201,48 +163,41 @@ fn find_tables(tag: &[u8], points: u32) -> MftAnswer
     })
 }
 
-// The numbers of a tag long enough to hold them, then its tables.
-fn read_numbers(tag: &[u8], limit: u64) -> MftAnswer
+// The numbers of a tag long enough to hold them, then its tables. A grid byte to the power of at most four channels fits 32 bits.
+fn read_numbers(tag: &[u8], limit: u64) -> Result<MftTable, Refusal>
     ensures { state_from result ≡ numbers_of limit tag.now }
 {
     if has_bad_numbers(tag) {
-        return MftAnswer::Refused(Refusal::BadTable);
+        return Err(Refusal::BadTable);
     }
-    let points = power(fields::u8_at(tag, GRID_POINTS), fields::u8_at(tag, INPUTS));
-    if limit < points as u64 {
-        return MftAnswer::Refused(Refusal::GridOverLimit);
+    let inputs = fields::u8_at(tag, INPUTS);
+    let points = u32::from(fields::u8_at(tag, GRID_POINTS)).pow(u32::from(inputs));
+    if limit < u64::from(points) {
+        return Err(Refusal::GridOverLimit);
     }
     find_tables(tag, points)
 }
 
-fn read_type(tag: &[u8], limit: u64) -> MftAnswer
+fn read_type(tag: &[u8], limit: u64) -> Result<MftTable, Refusal>
     ensures { state_from result ≡ mft_of limit tag.now }
 {
     if tag.len() < SHORTEST {
-        return MftAnswer::Refused(Refusal::TagTooShort);
+        return Err(Refusal::TagTooShort);
     }
-    if is_mft(tag) {
-        if tag.len() < tables_start(tag) as usize {
-            return MftAnswer::Refused(Refusal::TagTooShort);
-        }
-        return read_numbers(tag, limit);
+    if !is_mft(tag) {
+        return Err(Refusal::OtherLut);
     }
-    MftAnswer::Refused(Refusal::OtherLut)
+    if tag.len() < tables_start(tag) as usize {
+        return Err(Refusal::TagTooShort);
+    }
+    read_numbers(tag, limit)
 }
 
 // The `mft1` or `mft2` tag whose bytes these are; its colour table may have `limit` grid points.
-pub fn read_lut_a_to_b_type(tag: &[u8], limit: u64) -> Mft
+pub fn read_lut_a_to_b_type(tag: &[u8], limit: u64) -> Result<Mft, Refusal>
     ensures { in_numbers result ≡ answer_of tag.now (mft_of limit tag.now) }
 {
-    let answer = read_type(tag, limit);
-    match answer {
-        MftAnswer::Value(table) => Mft {
-            answer: MftAnswer::Value(table),
-            matrix: fields::nine_at(tag, MATRIX),
-        },
-        MftAnswer::Refused(why) => Mft {
-            answer: MftAnswer::Refused(why),
-            matrix: [0; 9],
-        },
-    }
+    let table = read_type(tag, limit)?;
+    let matrix = fields::nine_at(tag, MATRIX);
+    Ok(Mft { table, matrix })
 }

@@ -7,5 +7,5 @@ use Rattle.lut_mft.proofs.has_bad_entries.Goals as goal
 pub returns-then-is_outside : goal.returns-then-is_outside
 returns-then-is_outside c = search (rules, entries-laws)
 
-pub returns : goal.returns
-returns c = search (rules, entries-laws)
+pub returns-else-is_outside : goal.returns-else-is_outside
+returns-else-is_outside c = search (rules, entries-laws)

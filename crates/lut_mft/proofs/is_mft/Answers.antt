@@ -5,18 +5,10 @@ use Rattle.lut_mft.proofs.Laws.{is_mft1, is_mft2}
 use borrow.Author.Rules.{rules}
 use Rattle.lut_mft.proofs.is_mft.Goals as goal
 
-pub u32_at-requires : goal.u32_at-requires
-unfolding signature_of
-u32_at-requires c = search rules
-
 pub returns-then-u32_at-eq-MFT1 : goal.returns-then-u32_at-eq-MFT1
 unfolding signature_of
 returns-then-u32_at-eq-MFT1 c = search (rules, is_mft1)
 
-pub is_wide-requires : goal.is_wide-requires
+pub returns-else-u32_at-eq-MFT1 : goal.returns-else-u32_at-eq-MFT1
 unfolding signature_of
-is_wide-requires c = search rules
-
-pub returns : goal.returns
-unfolding signature_of
-returns c = search (rules, is_mft2)
+returns-else-u32_at-eq-MFT1 c = search (rules, is_mft2)

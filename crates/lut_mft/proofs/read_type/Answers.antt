@@ -7,11 +7,11 @@ use Rattle.lut_mft.proofs.read_type.Goals as goal
 pub returns-then-tag-lt-SHORTEST : goal.returns-then-tag-lt-SHORTEST
 returns-then-tag-lt-SHORTEST c = search (rules, read-laws)
 
+pub returns-then-not-is_mft : goal.returns-then-not-is_mft
+returns-then-not-is_mft c = search (rules, read-laws)
+
 pub returns-then-tag-tables_start : goal.returns-then-tag-tables_start
 returns-then-tag-tables_start c = search (rules, read-laws)
-
-pub returns-then-is_mft : goal.returns-then-is_mft
-returns-then-is_mft c = search (rules, read-laws)
 
 pub returns : goal.returns
 returns c = search (rules, read-laws)
