@@ -1,22 +1,42 @@
 -- There is a library that keeps the contracts, that of specs/Kept.antt, so no demand holds for want of one. The result that stands for an answer
 -- has its numbers: a meaning refuses with numbers of refusals only, and its values have as many numbers as the code's.
 -- Assumes nothing.
-use Prim.Native.Nat.{ℕ}
+use Prim.Native.Nat.{ℕ, zero, suc, ◌+◌, ◌≤◌}
 use mathlib.Core.Path.{◌≡◌, refl, ap}
 use mathlib.Core.List.{List}
 use mathlib.Core.Logic.{◌⊎◌, inl, inr}
+use native.Mathlib.Omega.{arith}
+use lib.Dec.{ltb, eqb}
+use lib.ListN.{length, get_or}
+use borrow.Author.Tests.{ltb-false}
+use mathlib.Core.Bool.{◌&&◌}
+use Rattle.fields.specs.Bytes.{u32_at}
+use Rattle.fields.specs.Tag.{signature_of}
+use Rattle.fields.specs.declared.Kind.TheVariants.{Curv, Para}
 use Rattle.fields.specs.Checked.{Checked, good, bad}
-use Rattle.fields.specs.Refusals.{no_colour_table, too_few_slots}
+use Rattle.fields.specs.Place.{counted_size, counted_tag}
+use Rattle.fields.specs.Refusals.{refusal_number, no_colour_table, too_few_slots}
+use Rattle.fields.specs.Some.{some}
+use Rattle.fields.proofs.Choice.{each}
+use Rattle.fields.proofs.Numbers.{name_of}
 use Rattle.fields.specs.House.{tag_size}
 use Rattle.curve_meaning.specs.Answer.{Answer as Curve-as-Answer, answer_of, in_numbers as Curve·inNumbers}
-use Rattle.curve_meaning.specs.Curve.{trc_of, curve_of, tag_of as Curve·tagOf}
-use Rattle.curve_meaning.specs.Shape.{Shape, empty, table, para, words_of}
+use Rattle.curve_meaning.specs.Curve.{trc_of, curve_of, curv_of, para_of, divides, tag_of as Curve·tagOf}
+use Rattle.curve_meaning.specs.Layout.{entry_count, entries_end, function_type, parameter_count, parameters_end, parameters}
+use Rattle.curve_meaning.specs.Shape.{Shape, para, words_of}
 use Rattle.curve_meaning.specs.declared.Walk.{Walk}
 use Rattle.curve_meaning.proofs.Every.{trc_each}
 use Rattle.curve_meaning.proofs.Unique.{result_from as Curve·resultFrom}
-use Rattle.lut_clut_meaning.proofs.Refuses.{Only}
-use Rattle.lut_meaning.specs.Answer.{State, Answer as Lut-as-Answer, state_from, in_numbers as Lut·inNumbers}
-use Rattle.lut_meaning.proofs.Unique.{answer_to, lut_to}
+use Rattle.lut_mft_meaning.specs.Answer.{State as Mft-as-State, answer_of as Mft·answerOf}
+use Rattle.lut_mft_meaning.specs.Layout.{is_mft, shortest}
+use Rattle.lut_mft_meaning.specs.Mft.{mft_of}
+use Rattle.lut_mft_meaning.proofs.Refuses.{mft_refuses}
+use Rattle.lut_meaning.specs.Abm.{value_of, abm_of}
+use Rattle.lut_meaning.specs.Answer.{Answer as Lut-as-Answer, in_numbers as Lut·inNumbers, refuse, from_mft}
+use Rattle.lut_meaning.specs.Lut.{lut_of, by_type as Lut·byType, is_abm}
+use Rattle.lut_meaning.proofs.Found.{ways_out}
+use Rattle.lut_meaning.proofs.Refuses.{part_refuses}
+use Rattle.lut_meaning.proofs.Unique.{lut_to}
 use Rattle.text_meaning.specs.Answer.{Answer as Text-as-Answer, in_numbers as Text·inNumbers}
 use Rattle.text_meaning.proofs.Unique.{result_to as Text·resultTo}
 use Rattle.small_meaning.proofs.Unique.{small_shown}
@@ -24,39 +44,91 @@ use Rattle.lut_view_meaning.specs.Answer.{Answer, in_numbers as View·inNumbers,
 use Rattle.lut_view_meaning.specs.View.{table_by, entry_of}
 use Rattle.evaluate_meaning.specs.Answer.{Answer as Colour-as-Answer, in_numbers as Colour·inNumbers}
 use Rattle.evaluate_meaning.proofs.Unique.{result_from as Colour·resultFrom}
-use Rattle.demands.specs.Readers.{Reader, lut, trc, string, small, Call, numbers, meaning, lut_outcome, text_outcome, Evaluator, pixel, row, Pixels, evaluation, Evaluates, Promised}
+use Rattle.demands.specs.Readers.{Reader, lut, trc, string, small, Call, numbers, meaning, text_outcome, Evaluator, pixel, row, Pixels, evaluation, Evaluates, Promised}
 use Rattle.demands.specs.Demands.{Demand1, Demand2, Demand3}
 use Rattle.demands.specs.Kept.{result, kept}
 use Rattle.demands.proofs.Evaluations.{room}
-use Rattle.demands.proofs.Refuses.{Low, Numbered, named_back, curve_refuses, meaning_numbered}
+use Rattle.demands.proofs.Refuses.{Low, low, Numbered, named_back, curve_refuses, meaning_numbered}
 use Rattle.demands.proofs.First.{demand1}
 use Rattle.demands.proofs.Second.{demand2}
 use Rattle.demands.proofs.Third.{demand3}
 
--- ---- the tone curve
+-- a refusal's number names it
+refused_back : {A : Type 0} (a : ℕ → A) (n : ℕ) → Low n → a (refusal_number (name_of n)) ≡ a n
+refused_back a n l = ap a (named_back n l)
 
-trc_shown : (walk : Walk) (limit : ℕ) (p : List ℕ) (at size : ℕ) → Curve·inNumbers (Curve·resultFrom (trc_of walk limit p at size)) ≡ trc_of walk limit p at size
-unfolding answer_of words_of
-trc_shown walk limit p at size =
-    let t = Curve·tagOf p at size in
-    trc_each (λ a. Curve·inNumbers (Curve·resultFrom a) ≡ a) refl refl walk limit p at size (by (curve_of limit t) (curve_refuses limit t))
+-- ---- the tone curve: a function that is read has one of the five types
+
+module _ (walk : Walk) where
+  abbrev CurveShown : Checked Shape → Type 0
+  CurveShown x = Curve·inNumbers (Curve·resultFrom (answer_of walk tag_size x)) ≡ answer_of walk tag_size x
+
+  curve_refused : (n : ℕ) → Low n → CurveShown (bad n)
+  unfolding answer_of
+  curve_refused n l = refused_back Curve-as-Answer.refused n l
+
+  function_shown : (type : ℕ) (ps : List ℕ) → type ≤ 4 → CurveShown (good (para type ps))
+  unfolding answer_of words_of
+  function_shown zero ps l = refl
+  function_shown (suc zero) ps l = refl
+  function_shown (suc (suc zero)) ps l = refl
+  function_shown (suc (suc (suc zero))) ps l = refl
+  function_shown (suc (suc (suc (suc zero)))) ps l = refl
+  function_shown (suc (suc (suc (suc (suc n))))) ps l = absurd (omega arith)
+
+  curve_shown : (limit : ℕ) (t : List ℕ) → CurveShown (curve_of limit t)
+  unfolding some curve_of curv_of para_of answer_of words_of
+  curve_shown limit t =
+      each CurveShown (ltb (length t) tag_size) _ _ (λ _. curve_refused 11 (low 11 refl))
+      (λ _. each CurveShown (eqb (u32_at t 0) (signature_of Curv)) _ _
+      (λ _. each CurveShown (eqb (entry_count t) 0) _ _ (λ _. refl)
+      (λ _. each CurveShown (ltb limit (entry_count t)) _ _ (λ _. curve_refused 10 (low 10 refl))
+      (λ _. each CurveShown (ltb (length t) (entries_end (entry_count t))) _ _ (λ _. curve_refused 11 (low 11 refl)) (λ _. refl))))
+      (λ _. each CurveShown (eqb (u32_at t 0) (signature_of Para)) _ _
+      (λ _. each CurveShown (ltb 4 (function_type t)) _ _ (λ _. curve_refused 12 (low 12 refl))
+      (λ h. each CurveShown (ltb (length t) (parameters_end (parameter_count (function_type t)))) _ _ (λ _. curve_refused 11 (low 11 refl))
+      (λ _. each CurveShown (divides (function_type t) && eqb (get_or (parameters t) 1 0) 0) _ _ (λ _. curve_refused 13 (low 13 refl))
+      (λ _. function_shown (function_type t) (parameters t) (ltb-false 4 (function_type t) h)))))
+      (λ _. curve_refused 9 (low 9 refl))))
+
+  trc_shown : (limit : ℕ) (p : List ℕ) (at size : ℕ) → Curve·inNumbers (Curve·resultFrom (trc_of walk limit p at size)) ≡ trc_of walk limit p at size
+  unfolding some
+  trc_shown limit p at size =
+      trc_each (λ a. Curve·inNumbers (Curve·resultFrom a) ≡ a) refl (refused_back Curve-as-Answer.refused 11 (low 11 refl)) walk limit p at size
+      (curve_shown limit (Curve·tagOf p at size))
+
+-- ---- lookup tables: the arrays are the answer's own, and zeros where there is no value
+
+abbrev LutShown : Lut-as-Answer → Type 0
+LutShown a = Lut·inNumbers (lut_to a) ≡ a
+
+refusal_shown : (n : ℕ) → Low n → LutShown (refuse n)
+refusal_shown n l = refused_back refuse n l
+
+mft_shown : (points : ℕ) (t : List ℕ) → LutShown (from_mft (Mft·answerOf t (mft_of points t)))
+unfolding some Mft·answerOf
+mft_shown points t = by (mft_of points t) (mft_refuses Low (low 2 refl) (low 3 refl) (low 15 refl) (low 16 refl) points t)
   where
-    by : (x : Checked Shape) → Only Low x → Curve·inNumbers (Curve·resultFrom (answer_of walk tag_size x)) ≡ answer_of walk tag_size x
-    by (good empty) k = refl
-    by (good (table n)) k = refl
-    by (good (para type ps)) k = refl
-    by (bad n) k = ap Curve-as-Answer.refused (named_back n (k n refl))
+    by : (x : Mft-as-State) → ((n : ℕ) → x ≡ Mft-as-State.refused n → Low n) → LutShown (from_mft (Mft·answerOf t x))
+    by (Mft-as-State.value f) k = refl
+    by (Mft-as-State.refused n) k = refusal_shown n (k n refl)
 
--- ---- lookup tables: the arrays are the answer's own
+abm_shown : (walk : Walk) (limit : ℕ) (t : List ℕ) (words : ℕ) → LutShown (abm_of walk limit t words)
+unfolding some value_of
+abm_shown walk limit t words =
+    ways_out walk limit t words LutShown refl
+    (λ n r. refusal_shown n (part_refuses Low (low 2 refl) (low 4 refl) (low 5 refl) (low 6 refl) (low 7 refl) (low 8 refl) limit t (curve_refuses limit) walk n r))
+    (λ _ _. refusal_shown 14 (low 14 refl)) (λ _ _. refl)
 
-lut_shown : (a : Lut-as-Answer) → Numbered (lut_outcome a.state) → Lut·inNumbers (lut_to a) ≡ a
-lut_shown a k = ap (λ (s : State). record { state = s; grid = a.grid; matrix = a.matrix; bias = a.bias }) (by a.state k)
-  where
-    by : (s : State) → Numbered (lut_outcome s) → state_from (answer_to s) ≡ s
-    by (State.mft f) k = refl
-    by (State.abm f) k = refl
-    by State.absent k = refl
-    by (State.refused n) k = ap State.refused (named_back n k)
+lut_shown : (walk : Walk) (c : Call) → LutShown (meaning (lut walk) c)
+unfolding some lut_of Lut·byType
+lut_shown walk c =
+    let size = counted_size c.size in
+    let t = counted_tag c.profile c.entry c.size in
+    each LutShown (ltb (length c.profile) (c.entry + size)) _ _ (λ _. refusal_shown 1 (low 1 refl))
+    (λ _. each LutShown (ltb size shortest) _ _ (λ _. refusal_shown 2 (low 2 refl))
+    (λ _. each LutShown (is_mft t) _ _ (λ _. mft_shown c.points t)
+    (λ _. each LutShown (is_abm t) _ _ (λ _. abm_shown walk c.entries t (length c.slots)) (λ _. refusal_shown 3 (low 3 refl)))))
 
 -- ---- text
 
@@ -70,7 +142,7 @@ text_shown (Text-as-Answer.refused n) k = ap Text-as-Answer.refused (named_back 
 -- ---- the promise is kept
 
 shown : (r : Reader) (c : Call) → numbers r (result r (meaning r c)) ≡ meaning r c
-shown (lut walk) c = lut_shown (meaning (lut walk) c) (meaning_numbered (lut walk) c)
+shown (lut walk) c = lut_shown walk c
 shown (trc walk) c = trc_shown walk c.entries c.profile c.entry c.size
 shown string c = text_shown (meaning string c) (meaning_numbered string c)
 shown (small s) c = small_shown s c.profile c.entry c.size

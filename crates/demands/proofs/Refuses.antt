@@ -66,7 +66,7 @@ one_of P n (m ∷ ns) all e = by (one_of P n ns all.1) (eqb n m) refl e
 pub named_back : (n : ℕ) → Low n → refusal_number (name_of n) ≡ n
 named_back n l = one_of (λ k. refusal_number (name_of k) ≡ k) n refusal_numbers used l.0
 
-low : (n : ℕ) → is_refusal n && leb n 17 ≡ true → Low n
+pub low : (n : ℕ) → is_refusal n && leb n 17 ≡ true → Low n
 low n e = (first_holds (is_refusal n) (leb n 17) e, leb-true n 17 (second_holds (is_refusal n) (leb n 17) e))
 
 -- ---- the tone curve

@@ -28,6 +28,7 @@ use Rattle.lut_meaning.specs.Cases.{tag as threeCurves}
 use Rattle.lut_meaning.specs.Layout.{present, device_channels, space_channels, a_curves_of, m_curves_of, b_curves_of, records_needed}
 use Rattle.lut_meaning.specs.Standard.{MatrixTaken, ClutFits, answer_told, records_written, PartsTaken, CurvesTaken}
 use Rattle.std.specs.Prelude.{Some, None, Ok, Err}
+use Rattle.lut_meaning.specs.declared.Lut.{Lut}
 use Rattle.lut_meaning.specs.declared.Lut.TheVariants.{Mft, Abm}
 use Rattle.lut_run_meaning.proofs.Conforms.{aligned_next}
 use Rattle.lut_meaning.proofs.Conforms.{written_records}
