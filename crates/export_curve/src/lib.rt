@@ -1,14 +1,12 @@
-// A tone curve: the walk of a number, and what is told of an answer.
+// A tone curve: the walk of a number, and what is told of a value.
 #![tactic(auto)]
 
-ghost use Rattle.std.specs.Prelude.{◌≡◌, [], ◌∷◌, ◌++◌};
-ghost use Rattle.std.proofs.lemmas.List.Edits.{sets};
-ghost use Rattle.curve_meaning.specs.Answer.{words, in_numbers};
-ghost use Rattle.export_words.specs.Exported.{always, Gave};
-ghost use Rattle.export_curve.specs.Layout.{walk_of, curve_exported, curve_layout};
+ghost use Rattle.std.specs.Prelude.{◌≡◌};
+ghost use Rattle.export_words.specs.Exported.{always};
+ghost use Rattle.export_curve.specs.Layout.{walk_of, curve_words, curve_layout};
 
-use curve_meaning::{CurveAnswer, CurveRecord, Walk};
-use export_words::{ABSENT, Layout, VALUE};
+use curve_meaning::{CurveRead, RECORD_WORDS, Walk};
+use export_words::{Layout, Tells};
 
 // How the words are laid out: kind, start, count, the seven parameters, which are signed, and the consumed size.
 pub const CURVE: Layout = Layout {
@@ -17,32 +15,25 @@ pub const CURVE: Layout = Layout {
     to: 10,
 };
 
-// The walk of a number: 0 is the crate walk, any other the book walk.
+// The walk of a number: 0 is the crate walk, any other the book walk. C has a number for it, and each call an answer.
 pub fn walk_of(number: u32) -> Walk
     ensures { result ≡ walk_of number }
 {
     if number == 0 { Walk::Crate } else { Walk::Book }
 }
 
-fn put_curve(out: &mut [u64], c: CurveRecord, consumed: u64)
-    ensures { out.new ≡ sets out.old 0 (words c ++ (consumed ∷ [])) }
-{
-    let ten = [c.kind, c.start, c.count, c.g, c.a, c.b, c.c, c.d, c.e, c.f];
-    export_words::put_words(out, 0, &ten);
-    let last = [consumed];
-    export_words::put_numbers(out, 10, &last);
-}
+// How a tone curve is told.
+pub struct ToneCurve;
 
-// The ten words of the record, and the consumed size.
-pub fn tell_curve(got: CurveAnswer, out: &mut [u64]) -> u32
-    ensures { Gave (always curve_layout) (curve_exported (in_numbers got)) result out.old out.new }
-{
-    match got {
-        CurveAnswer::Value { curve, consumed } => {
-            put_curve(out, curve, consumed);
-            VALUE
-        }
-        CurveAnswer::Absent => ABSENT,
-        CurveAnswer::Refused(why) => why.number(),
+impl Tells for ToneCurve {
+    type Value = CurveRead;
+
+    ghost layout = { always curve_layout };
+
+    ghost words = { curve_words };
+
+    fn put(value: CurveRead, out: &mut [u64]) {
+        export_words::put_words(out, 0, &<[u32; RECORD_WORDS]>::from(value.curve));
+        export_words::put_numbers(out, RECORD_WORDS, &[value.consumed]);
     }
 }
