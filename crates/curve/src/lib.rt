@@ -212,13 +212,13 @@ pub fn write_curve(
 ) -> Result<u64, Refusal>
     ensures { StepAndSlot walk start (in_slot slot.old (curve_of limit bytes.now)) result slot.old slot.new }
 {
-    if slot.len() < RECORD_WORDS {
+    let Some(front) = slot.first_chunk_mut::<RECORD_WORDS>() else {
         return Err(Refusal::TooFewSlots);
-    }
+    };
     let found = find_curve(bytes, limit)?;
-    let words = <[u32; RECORD_WORDS]>::from(found.record(start));
-    slot[..RECORD_WORDS].copy_from_slice(&words);
-    Ok(found.step(walk))
+    let step = found.step(walk);
+    *front = <[u32; RECORD_WORDS]>::from(found.record(start));
+    Ok(step)
 }
 
 // Whether a size is given and holds no curve.
