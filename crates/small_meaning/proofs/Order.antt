@@ -14,7 +14,7 @@ use Rattle.fields.specs.Bytes.{u32_at}
 use Rattle.fields.specs.Place.{place_of, tag_at}
 use Rattle.fields.specs.declared.Refusal.{Refusal}
 use Rattle.fields.proofs.Choice.{each}
-use Rattle.fields.proofs.Located.{inside, past, part_is}
+use Rattle.fields.proofs.Located.{inside, past, part_is, begins, starts as located_starts, ends as located_ends}
 use Rattle.small_meaning.specs.Answer.{Answer, value, default, absent, refused, answer_in}
 use Rattle.small_meaning.specs.Order.{found_of, answer_to, unfound_result}
 use Rattle.small_meaning.specs.declared.Unfound.{Unfound}
@@ -75,6 +75,10 @@ module _ (least end signature : ℕ) (p : List ℕ) (entry size : ℕ) where
     pub ends : w.end ≤ length p
     ends = let t = tagged (sym h ∙ e) in omega arith
 
+    -- and they are the tag's
+    pub found_part : take (w.end - w.start) (drop w.start p) ≡ tag_at p entry end
+    found_part = let t = tagged (sym h ∙ e) in rw (t.from_is, t.to_is, part_is p entry end)
+
 -- a tag that is found whole makes the profile as long as the least size
 pub covers : (least signature : ℕ) (p : List ℕ) (entry size : ℕ) {f : Result (Range ℕ) Unfound} {w : Range ℕ} → f ≡ found_of least size signature p entry size → f ≡ Ok w → least ≤ length p
 covers least signature p entry size h e = let t = tagged least size signature p entry size (sym h ∙ e) in omega arith
@@ -85,6 +89,14 @@ module _ (short other this : Answer) (f g : Result (Range ℕ) Unfound) (h : f �
   pub answer_short : f ≡ Err Unfound.Short → short ≡ answer_to g short other this
   unfolding answer_to
   answer_short e = simp (← h, e)
+
+  pub answer_past : f ≡ Err Unfound.Past → refused 1 ≡ answer_to g short other this
+  unfolding answer_to
+  answer_past e = simp (← h, e)
+
+  pub answer_other : f ≡ Err Unfound.Other → other ≡ answer_to g short other this
+  unfolding answer_to
+  answer_other e = simp (← h, e)
 
   pub answer_this : (a : Answer) (w : Range ℕ) → f ≡ Ok w → a ≡ this → a ≡ answer_to g short other this
   unfolding answer_to
@@ -100,15 +112,10 @@ answer_unfound numbers none this f g h why e r u = simp (← h, e, u) (by why)
     by Unfound.Past = refl
     by Unfound.Other = refl
 
--- what the bytes of a tag that is found say
-pub answer_tag : (says : List ℕ → Answer) (short other : Answer) (least end signature : ℕ) (p : List ℕ) (entry size : ℕ) (f : Result (Range ℕ) Unfound) (w : Range ℕ) (a : Answer) → f ≡ found_of least end signature p entry size → f ≡ Ok w → a ≡ says (take (w.end - w.start) (drop w.start p)) → a ≡ answer_to (found_of least end signature p entry size) short other (says (tag_at p entry end))
-answer_tag says short other least end signature p entry size f w a h e s =
-    let t = tagged least end signature p entry size (sym h ∙ e) in
-    answer_this short other _ f _ h a w e (simp (t.from_is, t.to_is, part_is p entry end) at s)
-
+-- the fields of a tag that is found
 pub answer_fields : (fields : List ℕ → List ℕ) (short other : Answer) (least end signature : ℕ) (p : List ℕ) (entry size : ℕ) (f : Result (Range ℕ) Unfound) (w : Range ℕ) (ws : List ℕ) → f ≡ found_of least end signature p entry size → f ≡ Ok w → ws ≡ fields (take (w.end - w.start) (drop w.start p)) → value ws ≡ answer_to (found_of least end signature p entry size) short other (value (fields (tag_at p entry end)))
-answer_fields fields short other least end signature p entry size f w ws h e s =
-    answer_tag (λ (t : List ℕ). value (fields t)) short other least end signature p entry size f w (value ws) h e (ap value s)
+answer_fields fields short other least end signature p entry size f w ws h e m =
+    answer_this short other _ f _ h (value ws) w e (ap value (m ∙ ap fields (found_part least end signature p entry size h e)))
 
 -- what holds of every answer that a reader can give holds of the one that it gives
 pub order_each : (P : Answer → Type 0) (f : Result (Range ℕ) Unfound) {short other this : Answer} → P short → P (refused 1) → P other → P this → P (answer_to f short other this)
@@ -157,4 +164,6 @@ pub reaches : (least end signature : ℕ) (p : List ℕ) (entry size : ℕ) (sho
 unfolding found_of answer_to
 reaches least end signature p entry size short other this l f t = simp (le-ltb _ _ l, le-ltb _ _ f, eq-eqb _ _ t)
 
-pub ruleset find-laws = (found_short, found_past, found_tag, found_other)
+pub ruleset find_laws = (found_short, found_past, found_tag, found_other, begins, located_starts, located_ends)
+
+pub ruleset reader_laws = (answer_short, answer_past, answer_other, answer_this, found_part, starts, ends)

@@ -2,29 +2,46 @@
 #![tactic(auto)]
 
 ghost use Rattle.std.specs.Prelude.{◌≡◌};
-ghost use Rattle.small_meaning.specs.Order.{found_of};
+ghost use Rattle.small_meaning.specs.Order.{found_of, unfound_result};
 
-use fields::{Entry, InTag, Place};
-use small_meaning::Found;
+use fields::{Entry, InTag, Refusal};
+use small_meaning::Unfound;
+use std::ops::Range;
 
 // Every tag begins with its signature.
 const SIGNATURE: u64 = 0;
 
-// The first `end` bytes of a tag of `size` bytes. A size under `least` is too short; then the bytes may lie past the profile; then the
-// type may be another than `signature`.
-pub fn find(profile: &[u8], entry: Entry, size: u32, least: u32, end: u32, signature: u32) -> Found
+// Where the first `end` bytes of a tag of `size` bytes lie. A size under `least` is too short; then the bytes may lie past the profile; then
+// the type may be another than `signature`.
+#[tactic(auto, using(small_meaning::proofs::Order::find_laws))]
+pub fn find(
+    profile: &[u8],
+    entry: Entry,
+    size: u32,
+    least: u32,
+    end: u32,
+    signature: u32,
+) -> Result<Range<usize>, Unfound>
     ensures { result ≡ found_of least end signature profile.now entry.0 size }
 {
     if size < least {
-        return Found::Short;
+        return Err(Unfound::Short);
     }
-    let place = fields::locate(profile, entry, InTag(end as u64));
-    let Place::In { from, to } = place else {
-        return Found::Past;
+    let Some(place) = fields::locate(profile, entry, InTag(end as u64)) else {
+        return Err(Unfound::Past);
     };
-    if fields::u32_at(&profile[from..to], InTag(SIGNATURE)) == signature {
-        Found::Tag { from, to }
-    } else {
-        Found::Other
+    if fields::u32_at(&profile[place.start..place.end], InTag(SIGNATURE)) != signature {
+        return Err(Unfound::Other);
+    }
+    Ok(place)
+}
+
+// What most readers answer where no tag is found: past the profile is a refusal, and else there is nothing to read.
+pub fn unfound<T>(why: Unfound) -> Result<Option<T>, Refusal>
+    ensures { result ≡ unfound_result why }
+{
+    match why {
+        Unfound::Past => Err(Refusal::PastProfile),
+        Unfound::Short | Unfound::Other => Ok(None),
     }
 }
