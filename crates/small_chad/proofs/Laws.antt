@@ -5,13 +5,13 @@ use mathlib.Core.Path.{◌≡◌}
 use mathlib.Core.List.{List}
 use lib.ListN.{length, take, drop}
 use borrow.Author.Tests.{eq-eqb, ne_eqb, lt-ltb, le-ltb}
+use Rattle.std.specs.Prelude.{Option, Some, None}
+use Rattle.std.specs.declared.ops.Range.{Range}
 use Rattle.fields.specs.Bytes.{u32_at}
 use Rattle.fields.specs.Place.{place_of}
 use Rattle.fields.specs.Tag.{signature_of}
 use Rattle.fields.specs.declared.Kind.TheVariants.{Sf32}
-use Rattle.fields.specs.declared.Place.{Place}
-use Rattle.fields.specs.declared.Place.TheVariants.{In, Past}
-use Rattle.fields.proofs.Located.{inside, past, part_is}
+use Rattle.fields.proofs.Located.{inside, past, part_is, begins, starts, ends}
 use Rattle.small_meaning.specs.Answer.{Answer, value, absent, refused}
 use Rattle.small_meaning.specs.Layout.{nine_numbers}
 use Rattle.small_meaning.specs.Small.{chad_matrix_of, chad_of}
@@ -30,17 +30,17 @@ module _ (t : List ℕ) (w : ℕ) (h : w ≡ u32_at t 0) where
     unfolding chad_matrix_of
     matrix_value ws e n = simp (← h, eq-eqb _ _ s, eq-eqb _ _ e, n)
 
-module _ (p : List ℕ) (entry size : ℕ) (place : Place) (h : place ≡ place_of (length p) entry size) where
-  pub chad_past : place ≡ Past → refused 1 ≡ chad_of p entry size
+module _ (p : List ℕ) (entry size : ℕ) (place : Option (Range ℕ)) (h : place ≡ place_of (length p) entry size) where
+  pub chad_past : place ≡ None → refused 1 ≡ chad_of p entry size
   unfolding chad_of
   chad_past e = simp (lt-ltb _ _ (past _ _ _ h e))
 
-  module _ (from to : ℕ) (e : place ≡ In from to) (head : Place) (g : head ≡ place_of (length p) entry 8) where
-    pub chad_head : head ≡ Past → refused 1 ≡ chad_of p entry size
+  module _ (w : Range ℕ) (e : place ≡ Some w) (head : Option (Range ℕ)) (g : head ≡ place_of (length p) entry 8) where
+    pub chad_head : head ≡ None → refused 1 ≡ chad_of p entry size
     unfolding chad_of
     chad_head f = simp (le-ltb _ _ (inside _ _ _ h e).fits, lt-ltb _ _ (past _ _ _ g f))
 
-    module _ (a b : ℕ) (f : head ≡ In a b) where
+    module _ (v : Range ℕ) (f : head ≡ Some v) where
       pub chad_short : size < 8 → absent ≡ chad_of p entry size
       unfolding chad_of
       chad_short l = simp (le-ltb _ _ (inside _ _ _ h e).fits, le-ltb _ _ (inside _ _ _ g f).fits, lt-ltb _ _ l)
@@ -49,12 +49,10 @@ module _ (p : List ℕ) (entry size : ℕ) (place : Place) (h : place ≡ place_
       unfolding chad_of
       chad_count l n = simp (le-ltb _ _ (inside _ _ _ h e).fits, le-ltb _ _ (inside _ _ _ g f).fits, le-ltb _ _ l, ne_eqb _ _ n)
 
-      pub chad_tag_lem : (r : Answer) → 8 ≤ size → (size - 8) / 4 ≡ 9 → r ≡ chad_matrix_of (take (to - from) (drop from p)) → r ≡ chad_of p entry size
+      pub chad_tag_lem : (r : Answer) → 8 ≤ size → (size - 8) / 4 ≡ 9 → r ≡ chad_matrix_of (take (w.end - w.start) (drop w.start p)) → r ≡ chad_of p entry size
       unfolding chad_of
-      chad_tag_lem r l n w =
+      chad_tag_lem r l n m =
           let i = inside _ _ _ h e in
-          simp (le-ltb _ _ i.fits, le-ltb _ _ (inside _ _ _ g f).fits, le-ltb _ _ l, eq-eqb _ _ n) (simp (i.from_is, i.to_is, part_is p entry size) at w)
+          simp (le-ltb _ _ i.fits, le-ltb _ _ (inside _ _ _ g f).fits, le-ltb _ _ l, eq-eqb _ _ n) (simp (i.from_is, i.to_is, part_is p entry size) at m)
 
-pub ruleset matrix-laws = (matrix_other, matrix_size, matrix_value)
-
-pub ruleset chad-laws = (chad_past, chad_head, chad_short, chad_count, chad_tag_lem)
+pub ruleset chad_laws = (matrix_other, matrix_size, matrix_value, chad_past, chad_head, chad_short, chad_count, chad_tag_lem, begins, starts, ends)
