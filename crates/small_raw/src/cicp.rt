@@ -5,7 +5,7 @@ ghost use Rattle.small_meaning.specs.Layout.{code_points, full_range};
 ghost use Rattle.small_meaning.specs.Small.{cicp_of};
 
 use fields::{Entry, InTag, Kind, Refusal, TAG_SIZE};
-use small_meaning::{CicpAnswer, CicpCodes, Found};
+use small_meaning::CicpCodes;
 
 // The flag of the full range.
 pub const FULL: u8 = 1;
@@ -32,6 +32,7 @@ const MATRIX: u64 = 10;
 
 const RANGE: u64 = 11;
 
+#[tactic(auto, unfolding(small_meaning::specs::Layout::code_points, fields::specs::Bytes::bytes_at))]
 fn codes_at(tag: &[u8]) -> CicpCodes
     ensures { code_numbers result ≡ code_points tag.now }
 {
@@ -44,14 +45,12 @@ fn codes_at(tag: &[u8]) -> CicpCodes
 }
 
 // The four code points of the tag at `entry`, of `size` bytes. No code is refused.
-pub fn read_cicp_tag(profile: &[u8], entry: Entry, size: u32) -> CicpAnswer
+#[tactic(auto, using(small_meaning::proofs::Order::reader_laws), unfolding(fields::specs::Tag::signature_of))]
+pub fn read_cicp_tag(profile: &[u8], entry: Entry, size: u32) -> Result<Option<CicpCodes>, Refusal>
     ensures { cicp_in_numbers result ≡ cicp_of profile.now entry.0 size }
 {
-    let found = small_order::find(profile, entry, size, TAG_SIZE, size, Kind::CICP);
-    match found {
-        Found::Short => CicpAnswer::Absent,
-        Found::Past => CicpAnswer::Refused(Refusal::PastProfile),
-        Found::Other => CicpAnswer::Absent,
-        Found::Tag { from, to } => CicpAnswer::Value(codes_at(&profile[from..to])),
+    match small_order::find(profile, entry, size, TAG_SIZE, size, Kind::CICP) {
+        Ok(place) => Ok(Some(codes_at(&profile[place]))),
+        Err(why) => small_order::unfound(why),
     }
 }

@@ -9,4 +9,4 @@ mod sig;
 pub use cicp::{FULL, full_range, read_cicp_tag};
 pub use dtim::read_date_time_tag;
 pub use sig::read_tech_tag;
-pub use small_meaning::{CicpAnswer, CicpCodes, DateAnswer, DateBytes, SigAnswer};
+pub use small_meaning::CicpCodes;

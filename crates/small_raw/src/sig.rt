@@ -4,7 +4,7 @@ ghost use Rattle.small_meaning.specs.Answer.{sig_in_numbers};
 ghost use Rattle.small_meaning.specs.Small.{sig_of};
 
 use fields::{Entry, InTag, Kind, Refusal, TAG_SIZE};
-use small_meaning::{Found, SigAnswer};
+use small_meaning::Unfound;
 
 // signatureType, 'sig '
 //  0 to  3  signature of the type
@@ -13,17 +13,14 @@ use small_meaning::{Found, SigAnswer};
 const VALUE: u64 = 8;
 
 // The signature in the tag at `entry`, of `size` bytes. Too short comes before past the profile.
-pub fn read_tech_tag(profile: &[u8], entry: Entry, size: u32) -> SigAnswer
+#[tactic(auto, using(small_meaning::proofs::Order::reader_laws), unfolding(fields::specs::Tag::signature_of, small_meaning::specs::Layout::signature_in))]
+pub fn read_tech_tag(profile: &[u8], entry: Entry, size: u32) -> Result<Option<u32>, Refusal>
     ensures { sig_in_numbers result ≡ sig_of profile.now entry.0 size }
 {
-    let found = small_order::find(profile, entry, size, TAG_SIZE, size, Kind::SIG);
-    match found {
-        Found::Short => SigAnswer::Refused(Refusal::TagTooShort),
-        Found::Past => SigAnswer::Refused(Refusal::PastProfile),
-        Found::Other => SigAnswer::Absent,
-        Found::Tag { from, to } => {
-            let signature = fields::u32_at(&profile[from..to], InTag(VALUE));
-            SigAnswer::Value { signature }
-        }
+    match small_order::find(profile, entry, size, TAG_SIZE, size, Kind::SIG) {
+        Ok(place) => Ok(Some(fields::u32_at(&profile[place], InTag(VALUE)))),
+        Err(Unfound::Short) => Err(Refusal::TagTooShort),
+        Err(Unfound::Past) => Err(Refusal::PastProfile),
+        Err(Unfound::Other) => Ok(None),
     }
 }
