@@ -6,8 +6,6 @@ mod view;
 mod xyz;
 
 pub use meas::read_meas_tag;
-pub use small_meaning::{
-    MeasAnswer, Measurement, ViewAnswer, ViewingConditions, XyzAnswer, XyzNumber,
-};
+pub use small_meaning::{Measurement, ViewingConditions, XyzNumber};
 pub use view::read_viewing_conditions;
 pub use xyz::read_xyz_tag;

@@ -2,10 +2,11 @@
 ghost use Rattle.std.specs.Prelude.{◌≡◌};
 ghost use Rattle.small_meaning.specs.Answer.{measurement_numbers, meas_in_numbers};
 ghost use Rattle.small_meaning.specs.Layout.{measurement};
-ghost use Rattle.small_meaning.specs.Small.{window_of, meas_of};
+ghost use Rattle.small_meaning.specs.Small.{meas_of};
 
-use fields::{Entry, InTag, Kind, Place, Refusal, TAG_SIZE};
-use small_meaning::{Found, MeasAnswer, Measurement, XyzNumber};
+use crate::xyz::xyz_at;
+use fields::{Entry, InTag, Kind, Refusal, TAG_SIZE};
+use small_meaning::Measurement;
 
 // measurementType, 'meas'
 //  0 to  3  signature
@@ -17,11 +18,7 @@ use small_meaning::{Found, MeasAnswer, Measurement, XyzNumber};
 // 32 to 35  standard illuminant
 const OBSERVER: u64 = 8;
 
-const BACKING_X: u64 = 12;
-
-const BACKING_Y: u64 = 16;
-
-const BACKING_Z: u64 = 20;
+const BACKING: u32 = 12;
 
 const GEOMETRY: u64 = 24;
 
@@ -31,47 +28,36 @@ const ILLUMINANT: u64 = 32;
 
 const END: u64 = 36;
 
+#[tactic(auto, using(crate::proofs::Laws::measurement_is))]
 fn measurement_at(bytes: &[u8]) -> Measurement
     ensures { measurement_numbers result ≡ measurement bytes.now }
 {
-    let observer = fields::u32_at(bytes, InTag(OBSERVER));
-    let backing = XyzNumber {
-        x: fields::u32_at(bytes, InTag(BACKING_X)),
-        y: fields::u32_at(bytes, InTag(BACKING_Y)),
-        z: fields::u32_at(bytes, InTag(BACKING_Z)),
-    };
-    let geometry = fields::u32_at(bytes, InTag(GEOMETRY));
-    let flare = fields::u32_at(bytes, InTag(FLARE));
-    let illuminant = fields::u32_at(bytes, InTag(ILLUMINANT));
     Measurement {
-        observer,
-        backing,
-        geometry,
-        flare,
-        illuminant,
+        observer: fields::u32_at(bytes, InTag(OBSERVER)),
+        backing: xyz_at(bytes, BACKING),
+        geometry: fields::u32_at(bytes, InTag(GEOMETRY)),
+        flare: fields::u32_at(bytes, InTag(FLARE)),
+        illuminant: fields::u32_at(bytes, InTag(ILLUMINANT)),
     }
 }
 
-// The 36 bytes of a measurement, wherever the tag ends.
-fn read_bytes(profile: &[u8], entry: Entry) -> MeasAnswer
-    ensures { meas_in_numbers result ≡ window_of profile.now entry.0 }
-{
-    let place = fields::locate(profile, entry, InTag(END));
-    let Place::In { from, to } = place else {
-        return MeasAnswer::Refused(Refusal::PastProfile);
-    };
-    MeasAnswer::Value(measurement_at(&profile[from..to]))
-}
-
-// The measurement whose tag stands at `entry`, of `size` bytes. As in the Rust a tag of 12 to 35 bytes is read past its size.
-pub fn read_meas_tag(profile: &[u8], entry: Entry, size: u32) -> MeasAnswer
+// The measurement whose tag stands at `entry`, of `size` bytes. As in the Rust 36 bytes are read, those of a tag of 12 to 35 bytes past its
+// size.
+#[tactic(auto, using(crate::proofs::Laws::meas_laws), unfolding(fields::specs::Tag::signature_of))]
+pub fn read_meas_tag(
+    profile: &[u8],
+    entry: Entry,
+    size: u32,
+) -> Result<Option<Measurement>, Refusal>
     ensures { meas_in_numbers result ≡ meas_of profile.now entry.0 size }
 {
-    let found = small_order::find(profile, entry, size, TAG_SIZE, size, Kind::MEAS);
-    match found {
-        Found::Short => MeasAnswer::Absent,
-        Found::Past => MeasAnswer::Refused(Refusal::PastProfile),
-        Found::Other => MeasAnswer::Absent,
-        Found::Tag { from: _, to: _ } => read_bytes(profile, entry),
+    match small_order::find(profile, entry, size, TAG_SIZE, size, Kind::MEAS) {
+        Ok(_) => {
+            let Some(place) = fields::locate(profile, entry, InTag(END)) else {
+                return Err(Refusal::PastProfile);
+            };
+            Ok(Some(measurement_at(&profile[place])))
+        }
+        Err(why) => small_order::unfound(why),
     }
 }

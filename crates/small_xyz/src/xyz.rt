@@ -1,11 +1,11 @@
-// `XYZ `: read_xyz_tag of moxcms.
+// `XYZ `: read_xyz_tag of moxcms, and an XYZNumber.
 ghost use Rattle.std.specs.Prelude.{◌≡◌};
 ghost use Rattle.fields.specs.Bytes.{words_at};
 ghost use Rattle.small_meaning.specs.Answer.{xyz_numbers, xyz_in_numbers};
-ghost use Rattle.small_meaning.specs.Small.{triple_of, xyz_of};
+ghost use Rattle.small_meaning.specs.Small.{xyz_of};
 
 use fields::{Entry, InTag, Kind, Refusal, TAG_SIZE};
-use small_meaning::{Found, XyzAnswer, XyzNumber};
+use small_meaning::XyzNumber;
 
 // XYZType, 'XYZ '
 //  0 to  3  signature
@@ -16,7 +16,8 @@ const FIRST: u32 = 8;
 const FIRST_END: usize = 20;
 
 // The three numbers from `at` on.
-fn xyz_at(tag: &[u8], at: u32) -> XyzNumber
+#[tactic(auto, using(crate::proofs::Laws::triple_is))]
+pub(crate) fn xyz_at(tag: &[u8], at: u32) -> XyzNumber
     ensures { xyz_numbers result ≡ words_at tag.now at 3 }
 {
     XyzNumber {
@@ -26,25 +27,19 @@ fn xyz_at(tag: &[u8], at: u32) -> XyzNumber
     }
 }
 
-// A tag of this type, which may be too short for its numbers.
-fn read_triple(tag: &[u8]) -> XyzAnswer
-    ensures { xyz_in_numbers result ≡ triple_of tag.now }
-{
-    if tag.len() < FIRST_END {
-        return XyzAnswer::Refused(Refusal::TagTooShort);
-    }
-    XyzAnswer::Value(xyz_at(tag, FIRST))
-}
-
-// The first XYZNumber of the tag at `entry`, of `size` bytes.
-pub fn read_xyz_tag(profile: &[u8], entry: Entry, size: u32) -> XyzAnswer
+// The first XYZNumber of the tag at `entry`, of `size` bytes. Without a value three zeros are meant, which are not read from the profile.
+#[tactic(auto, using(crate::proofs::Laws::xyz_laws), unfolding(fields::specs::Tag::signature_of))]
+pub fn read_xyz_tag(profile: &[u8], entry: Entry, size: u32) -> Result<Option<XyzNumber>, Refusal>
     ensures { xyz_in_numbers result ≡ xyz_of profile.now entry.0 size }
 {
-    let found = small_order::find(profile, entry, size, TAG_SIZE, size, Kind::XYZ);
-    match found {
-        Found::Short => XyzAnswer::Default,
-        Found::Past => XyzAnswer::Refused(Refusal::PastProfile),
-        Found::Other => XyzAnswer::Default,
-        Found::Tag { from, to } => read_triple(&profile[from..to]),
+    match small_order::find(profile, entry, size, TAG_SIZE, size, Kind::XYZ) {
+        Ok(place) => {
+            let tag = &profile[place];
+            if tag.len() < FIRST_END {
+                return Err(Refusal::TagTooShort);
+            }
+            Ok(Some(xyz_at(tag, FIRST)))
+        }
+        Err(why) => small_order::unfound(why),
     }
 }
