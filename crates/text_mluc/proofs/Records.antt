@@ -4,25 +4,19 @@ use Prim.Native.Nat.{ℕ, suc, ◌+◌, ◌-◌, ◌*◌, ◌/◌, ◌≤◌, �
 use native.Mathlib.Omega.{arith}
 use native.Mathlib.Nat.{sub-zero, zero-add}
 use mathlib.Core.Path.{◌≡◌, refl, sym, ap, ◌∙◌}
-use mathlib.Core.Bool.{Bool, true, false, cond}
-use mathlib.Core.List.{List, [], ◌∷◌, ◌++◌}
-use lib.Dec.{ltb}
+use mathlib.Core.List.{List, ◌++◌}
 use lib.ListN.{length, drop}
 use lib.Seq.{sets, sets-eq, length-sets}
-use types.Run.{OneOf}
-use denote.Enum.Declared.{tag_of as place_in}
-use borrow.Author.Tests.{eq-eqb, ne_eqb, lt-ltb, le-ltb, ltb-false}
+use borrow.Author.Tests.{eq-eqb, ne_eqb, lt-ltb, le-ltb}
+use Rattle.std.specs.Prelude.{Result, Ok, Err}
 use Rattle.fields.proofs.Never.{never}
 use Rattle.fields.specs.Bytes.{u16_at, u32_at}
 use Rattle.fields.proofs.Stores.{sets_append}
 use Rattle.text_mluc.specs.Items.{record_from, fault_from, seen_from}
-use Rattle.text_meaning.specs.Layout.{header_end, string_end}
-use Rattle.text_meaning.specs.Mluc.{PlacedString, Fault, header, string, is, no, whole, stopped, RecordsRead, stops, first, even, localized_at, record_at, records_from, records_asked, text_record_words, placed_words, words_in}
+use Rattle.text_meaning.specs.Mluc.{PlacedString, Fault, header, string, is, no, whole, stopped, RecordsRead, stops, first, even, record_at, records_from, records_asked, text_record_words, placed_words, words_in}
 use Rattle.text_mluc.specs.declared.Fault.{Fault as CodeFault}
-use Rattle.text_mluc.specs.declared.Item.{Item}
 use Rattle.text_mluc.specs.declared.TextRecord.{TextRecord}
 use Rattle.text_meaning.proofs.Shared.{words_length, whole_count}
-use Rattle.text_mluc.specs.contracts.Item as items
 
 -- ---- one record
 
@@ -40,7 +34,7 @@ module _ (t : List ℕ) (k : ℕ) where
     unfolding record_at even
     record_there language country m e₃ e₄ = simp (le-ltb _ _ l, ← e₁, ← e₂, ← e₃, ← e₄, le-ltb _ _ m)
 
-pub ruleset record-laws = (record_header, record_string, record_there)
+pub ruleset record_laws = (record_header, record_string, record_there)
 
 -- ---- a turn
 
@@ -57,19 +51,6 @@ records_stop t k n f e = rw e
 
 -- ---- the loop that judges
 
--- a record that is seen has its header in the tag
-header_inside : (t : List ℕ) (k : ℕ) (r : PlacedString) → record_at t k ≡ is r → header_end k ≤ length t
-unfolding record_at
-header_inside t k r = by (ltb (length t) (header_end k)) refl
-  where
-    by : (b : Bool) → ltb (length t) (header_end k) ≡ b → cond b (no header) (cond (ltb (length t) (string_end t k)) (no string) (is (localized_at t k))) ≡ is r → header_end k ≤ length t
-    by true e h = never cc
-    by false e h = ltb-false (length t) (header_end k) e
-
--- each turn has a header of 12 bytes behind it, so there are no more turns than the tag has bytes
-pub fewer : (t : List ℕ) (k : ℕ) (got : Item) (r : TextRecord) → seen_from got ≡ record_at t k → got ≡ Item.Record r → length t - 12 * (k + 1) < length t - 12 * k
-fewer t k got r h e = omega (arith, header_inside t k (record_from r) (sym h ∙ ap seen_from e))
-
 pub judge_begins : (t : List ℕ) (n : ℕ) → (records_from t 0 n).end ≡ (records_from t 0 (n - 0)).end
 judge_begins t n = rw sub-zero
 
@@ -78,12 +59,12 @@ module _ (t : List ℕ) (n k : ℕ) (left : (records_from t 0 n).end ≡ (record
   unfolding records_from
   judge_ends l = let z : n - k ≡ 0 = omega arith in sym (left ∙ rw z)
 
-  module _ (l : k < n) (got : Item) (h : seen_from got ≡ record_at t k) where
-    pub judge_turns : (r : TextRecord) → got ≡ Item.Record r → (records_from t 0 n).end ≡ (records_from t (k + 1) (n - (k + 1))).end
+  module _ (l : k < n) (got : Result TextRecord CodeFault) (h : seen_from got ≡ record_at t k) where
+    pub judge_turns : (r : TextRecord) → got ≡ Ok r → (records_from t 0 n).end ≡ (records_from t (k + 1) (n - (k + 1))).end
     judge_turns r e =
         left ∙ ap (λ (i : ℕ). (records_from t k i).end) (one_less n k l) ∙ ap (λ (x : RecordsRead). x.end) (records_turn t k (n - (k + 1)) (record_from r) (sym h ∙ ap seen_from e))
 
-    pub judge_stops : (why : CodeFault) → got ≡ Item.No why → stopped (fault_from why) ≡ (records_from t 0 n).end
+    pub judge_stops : (why : CodeFault) → got ≡ Err why → stopped (fault_from why) ≡ (records_from t 0 n).end
     judge_stops why e = sym (left ∙ ap (λ (i : ℕ). (records_from t k i).end) (one_less n k l) ∙ ap (λ (x : RecordsRead). x.end) (records_stop t k (n - (k + 1)) (fault_from why) (sym h ∙ ap seen_from e)))
 
 -- ---- how many are asked for
@@ -110,8 +91,8 @@ module _ (t : List ℕ) (n : ℕ) (s₀ : List ℕ) where
   pub write_begins : (records_from t 0 n).end ≡ whole → Writing s₀ 0
   write_begins g = record { within = omega arith; long = refl; good = rw sub-zero g; left = rw sub-zero }
 
-  module _ (s : List ℕ) (k : ℕ) (w : Writing s k) (l : k < n) (got : Item) (h : seen_from got ≡ record_at t k) where
-    pub write_turns : (r : TextRecord) (s' : List ℕ) → got ≡ Item.Record r → s' ≡ sets s (k * text_record_words) (placed_words (record_from r)) → Writing s' (k + 1)
+  module _ (s : List ℕ) (k : ℕ) (w : Writing s k) (l : k < n) (got : Result TextRecord CodeFault) (h : seen_from got ≡ record_at t k) where
+    pub write_turns : (r : TextRecord) (s' : List ℕ) → got ≡ Ok r → s' ≡ sets s (k * text_record_words) (placed_words (record_from r)) → Writing s' (k + 1)
     unfolding words_in
     write_turns r s' e p =
         let ws : List ℕ = placed_words (record_from r) in
@@ -127,16 +108,12 @@ module _ (t : List ℕ) (n : ℕ) (s₀ : List ℕ) where
         }
 
     -- no fault is met
-    pub write_never : OneOf (1 ∷ []) (place_in items.the_type got) → ⊥
+    pub write_never : (why : CodeFault) → got ≡ Err why → ⊥
     unfolding records_from
-    write_never o = by got refl o
-      where
-        by : (x : Item) → got ≡ x → OneOf (1 ∷ []) (place_in items.the_type x) → ⊥
-        by (Item.Record r) e z = omega (arith, z)
-        by (Item.No why) e z =
-            let g : (records_from t k (suc (n - (k + 1)))).end ≡ whole = rw (one_less n k l) at w.good in
-            let f = rw (sym h ∙ ap seen_from e) at g in
-            never cc
+    write_never why e =
+        let g : (records_from t k (suc (n - (k + 1)))).end ≡ whole = rw (one_less n k l) at w.good in
+        let f = rw (sym h ∙ ap seen_from e) at g in
+        never cc
 
   pub write_ends : (s : List ℕ) (k : ℕ) → Writing s k → n ≤ k → n * text_record_words ≤ length s₀ → (records_from t 0 n).end ≡ whole → s ≡ words_in (records_from t 0 n).records ++ drop (n * text_record_words) s₀
   unfolding words_in records_from
@@ -146,3 +123,7 @@ module _ (t : List ℕ) (n : ℕ) (s₀ : List ℕ) where
       let z : n - k ≡ 0 = omega arith in
       let d : s ≡ sets s₀ 0 all = rw z at w.left in
       d ∙ sets-eq all s₀ 0 (omega arith) ∙ rw (zero-add, e)
+
+pub ruleset judge_laws = (judge_begins, judge_turns, judge_stops, judge_ends)
+
+pub ruleset write_laws = (write_begins, write_turns, write_never, write_ends)

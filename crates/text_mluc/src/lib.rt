@@ -4,12 +4,11 @@
 ghost use Rattle.std.specs.Prelude.{◌≡◌, ◌++◌, ◌+◌, ◌*◌, ◌≤◌, length, drop};
 ghost use Rattle.std.proofs.lemmas.List.Edits.{sets};
 ghost use Rattle.text_meaning.specs.Mluc.{whole, record_at, records_from, records_asked, text_record_words, placed_words, words_in};
-ghost use Rattle.text_meaning.specs.Answer.{in_numbers};
-ghost use Rattle.text_meaning.specs.Text.{AnswerAndSlots, faulty as faultyBy, slotted_of, mluc_of};
-ghost use Rattle.text_mluc.specs.Items.{record_from, fault_from, seen_from, end_from};
+ghost use Rattle.text_meaning.specs.Text.{AnswerAndSlots, slotted_of, mluc_of};
+ghost use Rattle.text_mluc.specs.Items.{record_from, seen_from, end_from};
 
 use fields::{InTag, Refusal};
-use text_meaning::TextAnswer;
+use text_meaning::TextValue;
 
 // multiLocalizedUnicodeType, 'mluc'
 //  8 to 11  number of records
@@ -50,57 +49,37 @@ pub(crate) enum Fault {
     String,
 }
 
-#[derive(Clone, Copy)]
-pub(crate) enum Item {
-    Record(TextRecord),
-    No(Fault),
-}
-
-#[derive(Clone, Copy)]
-pub(crate) enum Verdict {
-    Whole,
-    Stopped(Fault),
-}
-
 // Record k.
-fn read_record(tag: &[u8], k: u32) -> Item
+#[tactic(auto, using(crate::proofs::Records::record_laws))]
+fn read_record(tag: &[u8], k: u32) -> Result<TextRecord, Fault>
     ensures { seen_from result ≡ record_at tag.now k }
 {
     let at = RECORDS + RECORD_SIZE * (k as u64);
     if (tag.len() as u64) < at + RECORD_SIZE {
-        return Item::No(Fault::Header);
+        return Err(Fault::Header);
     }
     let length = fields::u32_at(tag, InTag(at + STRING_LENGTH));
     let start = fields::u32_at(tag, InTag(at + STRING_OFFSET));
     if (tag.len() as u64) < start as u64 + length as u64 {
-        return Item::No(Fault::String);
+        return Err(Fault::String);
     }
-    let language = fields::u16_at(tag, InTag(at));
-    let country = fields::u16_at(tag, InTag(at + COUNTRY));
-    Item::Record(TextRecord {
-        language: language as u32,
-        country: country as u32,
+    Ok(TextRecord {
+        language: fields::u16_at(tag, InTag(at)) as u32,
+        country: fields::u16_at(tag, InTag(at + COUNTRY)) as u32,
         start,
         length: length / 2 * 2,
     })
 }
 
 // Judges n records, and writes nothing. It ends at the first header past the tag, however many are asked for.
-fn check_records(tag: &[u8], n: u32) -> Verdict
+#[tactic(auto, using(crate::proofs::Records::judge_laws))]
+fn check_records(tag: &[u8], n: u32) -> Result<(), Fault>
     ensures { end_from result ≡ (records_from tag.now 0 n).end }
 {
-    let mut k: u32 = 0;
-    while k < n {
-        let got = read_record(tag, k);
-        match got {
-            Item::Record(_) => {}
-            Item::No(why) => {
-                return Verdict::Stopped(why);
-            }
-        }
-        k += 1;
+    for k in 0..n {
+        read_record(tag, k)?;
     }
-    Verdict::Whole
+    Ok(())
 }
 
 // Writes a record's words from a word on.
@@ -115,22 +94,21 @@ fn put(slots: &mut [u32], at: usize, r: TextRecord)
 }
 
 // Writes n records that were judged whole, from the first slot on.
+#[tactic(auto, using(crate::proofs::Records::write_laws))]
 fn write_records(tag: &[u8], n: u32, slots: &mut [u32])
     requires { ((records_from tag.now 0 n).end ≡ whole) × (n * text_record_words ≤ length slots.old) }
     ensures { slots.new ≡ words_in (records_from tag.now 0 n).records ++ drop (n * text_record_words) slots.old }
 {
-    let mut k: u32 = 0;
-    while k < n {
-        let got = read_record(tag, k);
-        let Item::Record(r) = got else {
+    for k in 0..n {
+        let Ok(record) = read_record(tag, k) else {
             return;
         };
-        put(slots, k as usize * TEXT_RECORD_WORDS, r);
-        k += 1;
+        put(slots, k as usize * TEXT_RECORD_WORDS, record);
     }
 }
 
 // How many records are read: the first one always.
+#[tactic(auto, using(crate::proofs::Records::asked_one, crate::proofs::Records::asked_count))]
 fn records_asked(tag: &[u8]) -> u32
     ensures { result ≡ records_asked tag.now }
 {
@@ -139,35 +117,27 @@ fn records_asked(tag: &[u8]) -> u32
 }
 
 // Writes n records that were judged whole, if the slots suffice, and answers.
-fn write_all(tag: &[u8], n: u32, slots: &mut [u32]) -> TextAnswer
+#[tactic(auto, using(crate::proofs::Laws::mluc_laws))]
+fn write_all(tag: &[u8], n: u32, slots: &mut [u32]) -> Result<Option<TextValue>, Refusal>
     requires { (n ≡ records_asked tag.now) × ((records_from tag.now 0 n).end ≡ whole) }
     ensures { AnswerAndSlots tag.now (slotted_of n (length slots.old)) result slots.old slots.new }
 {
     if slots.len() / TEXT_RECORD_WORDS < n as usize {
-        return TextAnswer::Refused(Refusal::TooFewSlots);
+        return Err(Refusal::TooFewSlots);
     }
     write_records(tag, n, slots);
-    TextAnswer::Mluc { records: n }
-}
-
-// What a fault is answered by.
-fn faulty(why: Fault) -> TextAnswer
-    ensures { in_numbers result ≡ faultyBy (fault_from why) }
-{
-    match why {
-        Fault::Header => TextAnswer::Refused(Refusal::TagTooShort),
-        Fault::String => TextAnswer::Absent,
-    }
+    Ok(Some(TextValue::Mluc { records: n }))
 }
 
 // The records of the tag.
-pub fn read_mluc(tag: &[u8], slots: &mut [u32]) -> TextAnswer
+#[tactic(auto, using(crate::proofs::Laws::mluc_laws))]
+pub fn read_mluc(tag: &[u8], slots: &mut [u32]) -> Result<Option<TextValue>, Refusal>
     ensures { AnswerAndSlots tag.now (mluc_of tag.now (length slots.old)) result slots.old slots.new }
 {
     let n = records_asked(tag);
-    let judged = check_records(tag, n);
-    match judged {
-        Verdict::Whole => write_all(tag, n, slots),
-        Verdict::Stopped(why) => faulty(why),
+    match check_records(tag, n) {
+        Ok(()) => write_all(tag, n, slots),
+        Err(Fault::Header) => Err(Refusal::TagTooShort),
+        Err(Fault::String) => Ok(None),
     }
 }

@@ -1,14 +1,9 @@
--- `text_mluc::check_records` meets its contract: what is left to judge ends as the whole does. Its measure is at most the tag's length,
--- whatever number of records is asked for.
+-- `text_mluc::check_records` meets its contract: what is left to judge ends as the whole does.
 -- Assumes nothing.
-use Prim.Native.Nat.{◌-◌, ◌*◌, ◌≤◌}
+use Prim.Native.Nat.{◌-◌}
 use mathlib.Core.Path.{◌≡◌}
-use lib.ListN.{length}
 use Rattle.text_meaning.specs.Mluc.{records_from}
 use Rattle.text_mluc.proofs.check_records.Given as goal
 
 abbrev pub invariant-loop-k : goal.invariant-loop-k
-invariant-loop-k l = (l.k ≤ l.n) × ((records_from l.tag 0 l.n).end ≡ (records_from l.tag l.k (l.n - l.k)).end)
-
-abbrev pub decreases-loop-k : goal.decreases-loop-k
-decreases-loop-k l = length l.tag - 12 * l.k
+invariant-loop-k l = (records_from l.tag 0 l.n).end ≡ (records_from l.tag l.k (l.n - l.k)).end
