@@ -1,14 +1,8 @@
--- `text::read_desc` meets its contract: each way out is a law of `desc_of`.
+-- `text::read_desc` meets its contract: both strings are those of the tag.
 -- Assumes nothing.
-use Rattle.text.proofs.Laws.{desc-laws}
 use borrow.Author.Rules.{rules}
+use Rattle.text.proofs.Laws.{desc_laws}
 use Rattle.text.proofs.read_desc.Goals as goal
 
-pub returns-then-tag : goal.returns-then-tag
-returns-then-tag c = search (rules, desc-laws)
-
-pub returns-then-tag-end : goal.returns-then-tag-end
-returns-then-tag-end c = search (rules, desc-laws)
-
 pub returns : goal.returns
-returns c = search (rules, desc-laws)
+returns c = search (rules, desc_laws)
