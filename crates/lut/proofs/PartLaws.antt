@@ -9,8 +9,9 @@ use mathlib.Core.List.{List, [], ◌∷◌, ◌++◌}
 use lib.Dec.{eqb}
 use lib.ListN.{length, get_or, take, drop, replicate, length-append}
 use lib.Seq.{sets, length-sets}
-use types.Run.{OneOf}
-use denote.Enum.Declared.{tag_of as place_in}
+use Rattle.std.specs.Prelude.{Result, Ok, Err}
+use Rattle.fields.specs.Refusals.{refusal_number}
+use Rattle.fields.specs.declared.Refusal.{Refusal}
 use borrow.Author.Tests.{eq-eqb, ne_eqb, lt-ltb, le-ltb, eqb-true}
 use borrow.Rule.Slice.PartMut.{put_mid}
 use Rattle.fields.proofs.Never.{never}
@@ -29,8 +30,6 @@ use Rattle.lut.specs.Runs.{Few, RunsOf, runs_checked}
 use Rattle.lut.specs.Verdict.{verdict_in_numbers}
 use Rattle.lut_meaning.proofs.Shared.{records_of_lem, all_records}
 use Rattle.lut.specs.declared.abm.Runs.{Runs}
-use Rattle.lut.specs.declared.nested.Verdict.{Verdict}
-use Rattle.lut.specs.contracts.nested.Verdict as verdicts
 
 -- ---- channels and curves
 
@@ -64,7 +63,7 @@ module _ (offset n : ℕ) where
 
 pub ruleset few-laws = (none_few, some_few)
 
-pub runs_found : (t : List ℕ) (p : Runs) (device space : ℕ) → device ≡ device_channels t → space ≡ space_channels t → p.a.0 ≡ a_offset t → Few (present p.a.0 device) p.na → p.m.0 ≡ m_offset t → Few (present p.m.0 space) p.nm → p.b.0 ≡ b_offset t → Few (present p.b.0 space) p.nb → RunsOf t p
+pub runs_found : (t : List ℕ) (p : Runs) (device space : ℕ) → device ≡ device_channels t → space ≡ space_channels t → p.a.at.0 ≡ a_offset t → Few (present p.a.at.0 device) p.a.curves → p.m.at.0 ≡ m_offset t → Few (present p.m.at.0 space) p.m.curves → p.b.at.0 ≡ b_offset t → Few (present p.b.at.0 space) p.b.curves → RunsOf t p
 unfolding a_curves_of m_curves_of b_curves_of
 runs_found t p device space ed es ea fa em fm eb fb =
     record { a_at = ea; m_at = em; b_at = eb; a_curves_lem = rw (← ea, ← ed) fa; m_curves_lem = rw (← em, ← es) fm; b_curves_lem = rw (← eb, ← es) fb }
@@ -89,63 +88,62 @@ pub ruleset matrix-laws = (matrix_none, matrix_past, matrix_there)
 -- ---- the runs, judged
 
 -- a verdict that is not good
-stop_here : (v : Verdict) (j next : Checked Unit) → OneOf (1 ∷ []) (place_in verdicts.the_type v) → verdict_in_numbers v ≡ j → verdict_in_numbers v ≡ and_then j next
-stop_here Verdict.Good j next o h = absurd (omega arith)
-stop_here (Verdict.Refused why) (good _) next o h = never cc
-stop_here (Verdict.Refused why) (bad n) next o h = h
+stop_here : (v : Result Unit Refusal) (j next : Checked Unit) (why : Refusal) → v ≡ Err why → verdict_in_numbers v ≡ j → bad (refusal_number why) ≡ and_then j next
+stop_here v (good x) next why e h = let k : bad (refusal_number why) ≡ good x = sym (ap verdict_in_numbers e) ∙ h in never cc
+stop_here v (bad n) next why e h = sym (ap verdict_in_numbers e) ∙ h
 
-pass_here : (v : Verdict) (j next : Checked Unit) → v ≡ Verdict.Good → verdict_in_numbers v ≡ j → next ≡ and_then j next
-pass_here v (good _) next e h = refl
-pass_here v (bad n) next e h = never cc
+pass_here : (v : Result Unit Refusal) (j next : Checked Unit) (x : Unit) → v ≡ Ok x → verdict_in_numbers v ≡ j → next ≡ and_then j next
+pass_here v (good _) next x e h = refl
+pass_here v (bad n) next x e h = let k : good tt ≡ bad n = sym (ap verdict_in_numbers e) ∙ h in never cc
 
 -- the runs that the code walks are those of the tag
 module _ (walk : Walk) (limit : ℕ) (t : List ℕ) (p : Runs) (w : RunsOf t p) where
-  a_is : run_at walk limit t p.a.0 p.na ≡ run_a walk limit t
+  a_is : run_at walk limit t p.a.at.0 p.a.curves ≡ run_a walk limit t
   a_is = rw (w.a_at, w.a_curves_lem.is)
 
-  m_is : run_at walk limit t p.m.0 p.nm ≡ run_m walk limit t
+  m_is : run_at walk limit t p.m.at.0 p.m.curves ≡ run_m walk limit t
   m_is = rw (w.m_at, w.m_curves_lem.is)
 
-  b_is : run_at walk limit t p.b.0 p.nb ≡ run_b walk limit t
+  b_is : run_at walk limit t p.b.at.0 p.b.curves ≡ run_b walk limit t
   b_is = rw (w.b_at, w.b_curves_lem.is)
 
-  module _ (v : Verdict) (ja : verdict_in_numbers v ≡ ended (run_at walk limit t p.a.0 p.na).end) where
+  module _ (v : Result Unit Refusal) (ja : verdict_in_numbers v ≡ ended (run_at walk limit t p.a.at.0 p.a.curves).end) where
     of_a : verdict_in_numbers v ≡ ended (run_a walk limit t).end
     of_a = ja ∙ ap (λ (r : Run). ended r.end) a_is
 
-    pub runs_a : OneOf (1 ∷ []) (place_in verdicts.the_type v) → verdict_in_numbers v ≡ runs_checked walk limit t
+    pub runs_a : (why : Refusal) → v ≡ Err why → bad (refusal_number why) ≡ runs_checked walk limit t
     unfolding runs_checked
-    runs_a o = stop_here v _ _ o of_a
+    runs_a why e = stop_here v _ _ why e of_a
 
-    module _ (g : v ≡ Verdict.Good) (u : Verdict) (jm : verdict_in_numbers u ≡ ended (run_at walk limit t p.m.0 p.nm).end) where
+    module _ (y : Unit) (g : v ≡ Ok y) (u : Result Unit Refusal) (jm : verdict_in_numbers u ≡ ended (run_at walk limit t p.m.at.0 p.m.curves).end) where
       of_m : verdict_in_numbers u ≡ ended (run_m walk limit t).end
       of_m = jm ∙ ap (λ (r : Run). ended r.end) m_is
 
-      pub runs_m : OneOf (1 ∷ []) (place_in verdicts.the_type u) → verdict_in_numbers u ≡ runs_checked walk limit t
+      pub runs_m : (why : Refusal) → u ≡ Err why → bad (refusal_number why) ≡ runs_checked walk limit t
       unfolding runs_checked
-      runs_m o = stop_here u _ _ o of_m ∙ pass_here v _ _ g of_a
+      runs_m why e = stop_here u _ _ why e of_m ∙ pass_here v _ _ y g of_a
 
-      pub runs_b : (x : Verdict) → u ≡ Verdict.Good → verdict_in_numbers x ≡ ended (run_at walk limit t p.b.0 p.nb).end → verdict_in_numbers x ≡ runs_checked walk limit t
+      pub runs_b : (x : Result Unit Refusal) (z : Unit) → u ≡ Ok z → verdict_in_numbers x ≡ ended (run_at walk limit t p.b.at.0 p.b.curves).end → verdict_in_numbers x ≡ runs_checked walk limit t
       unfolding runs_checked
-      runs_b x e jb = jb ∙ ap (λ (r : Run). ended r.end) b_is ∙ pass_here u _ _ e of_m ∙ pass_here v _ _ g of_a
+      runs_b x z e jb = jb ∙ ap (λ (r : Run). ended r.end) b_is ∙ pass_here u _ _ z e of_m ∙ pass_here v _ _ y g of_a
 
 pub ruleset runs-laws = (runs_a, runs_m, runs_b)
 
 -- ---- curves B alone
 
 module _ (p : Runs) where
-  pub alone_not : (p.na ≡ 0 → ⊥) → false ≡ eqb p.na 0 && eqb p.nm 0
+  pub alone_not : (p.a.curves ≡ 0 → ⊥) → false ≡ eqb p.a.curves 0 && eqb p.m.curves 0
   alone_not z = simp (ne_eqb _ _ z)
 
-  pub alone_test : p.na ≡ 0 → eqb p.nm 0 ≡ eqb p.na 0 && eqb p.nm 0
+  pub alone_test : p.a.curves ≡ 0 → eqb p.m.curves 0 ≡ eqb p.a.curves 0 && eqb p.m.curves 0
   alone_test z = simp (eq-eqb _ _ z)
 
-module _ (walk : Walk) (limit : ℕ) (t : List ℕ) (p : Runs) (w : RunsOf t p) (b : Bool) (h : b ≡ eqb p.na 0 && eqb p.nm 0) (e : b ≡ true) where
-  a_none : p.na ≡ 0
-  a_none = eqb-true _ _ (first_holds (eqb p.na 0) (eqb p.nm 0) (sym h ∙ e))
+module _ (walk : Walk) (limit : ℕ) (t : List ℕ) (p : Runs) (w : RunsOf t p) (b : Bool) (h : b ≡ eqb p.a.curves 0 && eqb p.m.curves 0) (e : b ≡ true) where
+  a_none : p.a.curves ≡ 0
+  a_none = eqb-true _ _ (first_holds (eqb p.a.curves 0) (eqb p.m.curves 0) (sym h ∙ e))
 
-  m_none : p.nm ≡ 0
-  m_none = eqb-true _ _ (second_holds (eqb p.na 0) (eqb p.nm 0) (sym h ∙ e))
+  m_none : p.m.curves ≡ 0
+  m_none = eqb-true _ _ (second_holds (eqb p.a.curves 0) (eqb p.m.curves 0) (sym h ∙ e))
 
   no_a : a_curves_of t ≡ 0
   no_a = sym w.a_curves_lem.is ∙ a_none
@@ -153,62 +151,62 @@ module _ (walk : Walk) (limit : ℕ) (t : List ℕ) (p : Runs) (w : RunsOf t p) 
   no_m : m_curves_of t ≡ 0
   no_m = sym w.m_curves_lem.is ∙ m_none
 
-  pub alone_judged : (v : Verdict) → verdict_in_numbers v ≡ ended (run_at walk limit t p.b.0 p.nb).end → verdict_in_numbers v ≡ runs_checked walk limit t
+  pub alone_judged : (v : Result Unit Refusal) → verdict_in_numbers v ≡ ended (run_at walk limit t p.b.at.0 p.b.curves).end → verdict_in_numbers v ≡ runs_checked walk limit t
   unfolding runs_checked run_at ended
   alone_judged v j = rw (no_a, no_m) (j ∙ ap (λ (r : Run). ended r.end) (b_is walk limit t p w))
 
-  pub alone_whole : RunsWhole walk limit t → (run_at walk limit t p.b.0 p.nb).end ≡ whole
+  pub alone_whole : RunsWhole walk limit t → (run_at walk limit t p.b.at.0 p.b.curves).end ≡ whole
   alone_whole k = ap (λ (r : Run). r.end) (b_is walk limit t p w) ∙ k.b_whole
 
-  pub alone_room : (s : List ℕ) → (p.na + p.nm + p.nb) * record_words ≤ length s → p.nb * record_words ≤ length s
+  pub alone_room : (s : List ℕ) → (p.a.curves + p.m.curves + p.b.curves) * record_words ≤ length s → p.b.curves * record_words ≤ length s
   alone_room s l = omega arith
 
-  pub alone_written : (s s' : List ℕ) → s' ≡ records_of (run_at walk limit t p.b.0 p.nb).curves ++ drop (p.nb * record_words) s → s' ≡ records_of (curves_of walk limit t) ++ drop ((p.na + p.nm + p.nb) * record_words) s
+  pub alone_written : (s s' : List ℕ) → s' ≡ records_of (run_at walk limit t p.b.at.0 p.b.curves).curves ++ drop (p.b.curves * record_words) s → s' ≡ records_of (curves_of walk limit t) ++ drop ((p.a.curves + p.m.curves + p.b.curves) * record_words) s
   unfolding curves_of run_at
   alone_written s s' k = rw (no_a, no_m, a_none, m_none, zero-add, ← w.b_at, ← w.b_curves_lem.is) k
 
 -- ---- the runs, written
 
 module _ (walk : Walk) (limit : ℕ) (t : List ℕ) (p : Runs) (w : RunsOf t p) (h : RunsWhole walk limit t) where
-  pub a_read : (run_at walk limit t p.a.0 p.na).end ≡ whole
+  pub a_read : (run_at walk limit t p.a.at.0 p.a.curves).end ≡ whole
   a_read = ap (λ (r : Run). r.end) (a_is walk limit t p w) ∙ h.a_whole
 
-  pub m_read : (run_at walk limit t p.m.0 p.nm).end ≡ whole
+  pub m_read : (run_at walk limit t p.m.at.0 p.m.curves).end ≡ whole
   m_read = ap (λ (r : Run). r.end) (m_is walk limit t p w) ∙ h.m_whole
 
-  pub b_read : (run_at walk limit t p.b.0 p.nb).end ≡ whole
+  pub b_read : (run_at walk limit t p.b.at.0 p.b.curves).end ≡ whole
   b_read = ap (λ (r : Run). r.end) (b_is walk limit t p w) ∙ h.b_whole
 
   -- each run is written in front of its part: s₁, s₂ are the slots between the calls, and y₂, y₃ what the calls left of the parts
-  pub runs_written : (s₀ : List ℕ) → (p.na + p.nm + p.nb) * record_words ≤ length s₀
-      → (s₁ : List ℕ) → s₁ ≡ records_of (run_at walk limit t p.a.0 p.na).curves ++ drop (p.na * record_words) s₀
-      → (y₂ : List ℕ) → y₂ ≡ records_of (run_at walk limit t p.m.0 p.nm).curves ++ drop (p.nm * record_words) (take (length s₁ - p.na * record_words) (drop (p.na * record_words) s₁))
-      → (s₂ : List ℕ) → s₂ ≡ put_mid (p.na * record_words) (length s₁ - p.na * record_words) s₁ y₂
-      → (y₃ : List ℕ) → y₃ ≡ records_of (run_at walk limit t p.b.0 p.nb).curves ++ drop (p.nb * record_words) (take (length s₂ - (p.na + p.nm) * record_words) (drop ((p.na + p.nm) * record_words) s₂))
-      → put_mid ((p.na + p.nm) * record_words) (length s₂ - (p.na + p.nm) * record_words) s₂ y₃ ≡ records_of (curves_of walk limit t) ++ drop ((p.na + p.nm + p.nb) * record_words) s₀
+  pub runs_written : (s₀ : List ℕ) → (p.a.curves + p.m.curves + p.b.curves) * record_words ≤ length s₀
+      → (s₁ : List ℕ) → s₁ ≡ records_of (run_at walk limit t p.a.at.0 p.a.curves).curves ++ drop (p.a.curves * record_words) s₀
+      → (y₂ : List ℕ) → y₂ ≡ records_of (run_at walk limit t p.m.at.0 p.m.curves).curves ++ drop (p.m.curves * record_words) (take (length s₁ - p.a.curves * record_words) (drop (p.a.curves * record_words) s₁))
+      → (s₂ : List ℕ) → s₂ ≡ put_mid (p.a.curves * record_words) (length s₁ - p.a.curves * record_words) s₁ y₂
+      → (y₃ : List ℕ) → y₃ ≡ records_of (run_at walk limit t p.b.at.0 p.b.curves).curves ++ drop (p.b.curves * record_words) (take (length s₂ - (p.a.curves + p.m.curves) * record_words) (drop ((p.a.curves + p.m.curves) * record_words) s₂))
+      → put_mid ((p.a.curves + p.m.curves) * record_words) (length s₂ - (p.a.curves + p.m.curves) * record_words) s₂ y₃ ≡ records_of (curves_of walk limit t) ++ drop ((p.a.curves + p.m.curves + p.b.curves) * record_words) s₀
   runs_written s₀ room s₁ e₁ y₂ e₂ s₂ p₂ y₃ e₃ =
-      let A : List ℕ = records_of (run_at walk limit t p.a.0 p.na).curves in
-      let M : List ℕ = records_of (run_at walk limit t p.m.0 p.nm).curves in
-      let B : List ℕ = records_of (run_at walk limit t p.b.0 p.nb).curves in
-      let la : length A ≡ p.na * record_words = records_of_lem walk limit t p.a.0 p.na a_read in
-      let lm : length M ≡ p.nm * record_words = records_of_lem walk limit t p.m.0 p.nm m_read in
-      let lb : length B ≡ p.nb * record_words = records_of_lem walk limit t p.b.0 p.nb b_read in
+      let A : List ℕ = records_of (run_at walk limit t p.a.at.0 p.a.curves).curves in
+      let M : List ℕ = records_of (run_at walk limit t p.m.at.0 p.m.curves).curves in
+      let B : List ℕ = records_of (run_at walk limit t p.b.at.0 p.b.curves).curves in
+      let la : length A ≡ p.a.curves * record_words = records_of_lem walk limit t p.a.at.0 p.a.curves a_read in
+      let lm : length M ≡ p.m.curves * record_words = records_of_lem walk limit t p.m.at.0 p.m.curves m_read in
+      let lb : length B ≡ p.b.curves * record_words = records_of_lem walk limit t p.b.at.0 p.b.curves b_read in
       let all : records_of (curves_of walk limit t) ≡ A ++ M ++ B = all_records walk limit t ∙ rw (a_is walk limit t p w, m_is walk limit t p w, b_is walk limit t p w) refl in
-      let w₁ : s₁ ≡ sets s₀ 0 A = e₁ ∙ front s₀ A (p.na * record_words) la (omega arith) in
+      let w₁ : s₁ ≡ sets s₀ 0 A = e₁ ∙ front s₀ A (p.a.curves * record_words) la (omega arith) in
       let l₁ : length s₁ ≡ length s₀ = ap length w₁ ∙ length-sets s₀ 0 A in
-      let w₂ : s₂ ≡ sets s₁ (p.na * record_words) M = p₂ ∙ rejoined s₁ M (p.na * record_words) (p.nm * record_words) lm (omega arith) y₂ e₂ in
-      let l₂ : length s₂ ≡ length s₁ = ap length w₂ ∙ length-sets s₁ (p.na * record_words) M in
-      let n : length (A ++ M ++ B) ≡ (p.na + p.nm + p.nb) * record_words = simp length-append (omega arith) in
-      let i : (p.na + p.nm) * record_words ≡ 0 + length (A ++ M) = simp length-append (omega arith) in
-      let j : p.na * record_words ≡ 0 + length A = omega arith in
-      rejoined s₂ B ((p.na + p.nm) * record_words) (p.nb * record_words) lb (omega arith) y₃ e₃
-      ∙ ap (λ (x : List ℕ). sets x ((p.na + p.nm) * record_words) B) (w₂ ∙ ap (λ (x : List ℕ). sets x (p.na * record_words) M) w₁)
-      ∙ ap (λ (k : ℕ). sets (sets (sets s₀ 0 A) k M) ((p.na + p.nm) * record_words) B) j
-      ∙ ap (λ (x : List ℕ). sets x ((p.na + p.nm) * record_words) B) (sym (sets_append A M s₀ 0))
+      let w₂ : s₂ ≡ sets s₁ (p.a.curves * record_words) M = p₂ ∙ rejoined s₁ M (p.a.curves * record_words) (p.m.curves * record_words) lm (omega arith) y₂ e₂ in
+      let l₂ : length s₂ ≡ length s₁ = ap length w₂ ∙ length-sets s₁ (p.a.curves * record_words) M in
+      let n : length (A ++ M ++ B) ≡ (p.a.curves + p.m.curves + p.b.curves) * record_words = simp length-append (omega arith) in
+      let i : (p.a.curves + p.m.curves) * record_words ≡ 0 + length (A ++ M) = simp length-append (omega arith) in
+      let j : p.a.curves * record_words ≡ 0 + length A = omega arith in
+      rejoined s₂ B ((p.a.curves + p.m.curves) * record_words) (p.b.curves * record_words) lb (omega arith) y₃ e₃
+      ∙ ap (λ (x : List ℕ). sets x ((p.a.curves + p.m.curves) * record_words) B) (w₂ ∙ ap (λ (x : List ℕ). sets x (p.a.curves * record_words) M) w₁)
+      ∙ ap (λ (k : ℕ). sets (sets (sets s₀ 0 A) k M) ((p.a.curves + p.m.curves) * record_words) B) j
+      ∙ ap (λ (x : List ℕ). sets x ((p.a.curves + p.m.curves) * record_words) B) (sym (sets_append A M s₀ 0))
       ∙ ap (λ (k : ℕ). sets (sets s₀ 0 (A ++ M)) k B) i
       ∙ sym (sets_append (A ++ M) B s₀ 0)
-      ∙ sym (front s₀ (A ++ M ++ B) ((p.na + p.nm + p.nb) * record_words) n room)
-      ∙ ap (λ (x : List ℕ). x ++ drop ((p.na + p.nm + p.nb) * record_words) s₀) (sym all)
+      ∙ sym (front s₀ (A ++ M ++ B) ((p.a.curves + p.m.curves + p.b.curves) * record_words) n room)
+      ∙ ap (λ (x : List ℕ). x ++ drop ((p.a.curves + p.m.curves + p.b.curves) * record_words) s₀) (sym all)
 
 -- ---- rows read into arrays
 

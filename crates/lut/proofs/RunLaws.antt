@@ -3,12 +3,11 @@
 use Prim.Native.Nat.{ℕ, suc, ◌+◌, ◌-◌, ◌*◌, ◌^◌, ◌≤◌, ◌<◌}
 use native.Mathlib.Omega.{arith}
 use native.Mathlib.Nat.{sub-zero}
-use mathlib.Core.Path.{◌≡◌, refl, sym, ◌∙◌, ap}
-use mathlib.Core.List.{List, [], ◌∷◌}
+use mathlib.Core.Path.{◌≡◌, sym, ◌∙◌, ap}
+use mathlib.Core.List.{List}
 use lib.ListN.{length, take, drop, length-drop}
 use lib.Seq.{sets, length-take-le}
-use types.Run.{OneOf}
-use denote.Enum.Declared.{tag_of as place_in}
+use Rattle.std.specs.Prelude.{Result, Ok, Err}
 use borrow.Author.Tests.{lt-ltb, le-ltb}
 use borrow.Rule.Slice.PartMut.{put_mid}
 use Rattle.fields.proofs.Choice.{refused_good}
@@ -20,17 +19,13 @@ use Rattle.fields.proofs.Stores.{put_back}
 use Rattle.curve_meaning.specs.Answer.{step_checked, step_in_numbers, slot_with, in_slot, StepAndSlot}
 use Rattle.curve_meaning.specs.Curve.{curve_of}
 use Rattle.curve_meaning.specs.Shape.{step_of, record_words, words_of}
-use Rattle.curve_meaning.specs.declared.Step.{Step}
 use Rattle.curve_meaning.specs.declared.Walk.{Walk}
 use Rattle.curve_meaning.proofs.Inside.{step_most}
-use Rattle.curve_meaning.specs.contracts.Step as steps
 use Rattle.curve_meaning.proofs.Answered.{stepped, stepped_no}
 use Rattle.lut_run_meaning.specs.Run.{Run, aligned, curve_at_offset, run_at}
 use Rattle.lut_run_meaning.proofs.Runs.{entry_there, entry_inside, run_turn}
 use Rattle.lut_run_meaning.proofs.Writing.{Writing, words_length, next_is, turns}
 use Rattle.lut_meaning.specs.Parts.{ended}
-use Rattle.lut.specs.Verdict.{verdict_in_numbers, step_verdict}
-use Rattle.lut.specs.declared.nested.Verdict.{Verdict}
 
 -- ---- a curve of a run
 
@@ -48,7 +43,7 @@ module _ (walk : Walk) (limit : ℕ) (t : List ℕ) (at : ℕ) where
   run_there r h s e = let l : at + 12 ≤ length t = omega arith in rw (le-ltb _ _ l) (rw (rest_is t at) at e)
 
   -- where a curve is judged good, the walk goes on inside the tag
-  pub near : (got : Step) (consumed : ℕ) → length t < 2 ^ 32 → step_in_numbers got ≡ step_checked walk (curve_at_offset limit t at) → got ≡ Step.On consumed → at + consumed < 2 ^ 33
+  pub near : (got : Result ℕ Refusal) (consumed : ℕ) → length t < 2 ^ 32 → step_in_numbers got ≡ step_checked walk (curve_at_offset limit t at) → got ≡ Ok consumed → at + consumed < 2 ^ 33
   near got consumed l h e =
       let w = stepped walk (curve_at_offset limit t at) (sym (ap step_in_numbers e) ∙ h) in
       omega (arith, entry_inside limit t at w.shape w.seen, step_most walk w.shape, w.step_is)
@@ -60,30 +55,23 @@ pub ruleset entry-laws = (run_past, run_short, run_there)
 pub run_start : (walk : Walk) (limit : ℕ) (t : List ℕ) (at n : ℕ) → (run_at walk limit t at n).end ≡ (run_at walk limit t at (n - 0)).end
 run_start walk limit t at n = rw sub-zero
 
-pub stop_refused : (got : Step) (why : Refusal) → got ≡ Step.Refused why → bad (refusal_number why) ≡ step_verdict (step_in_numbers got)
-stop_refused got why e = rw e
-
 module _ (walk : Walk) (limit : ℕ) (t : List ℕ) (at n i next : ℕ) (inv : (run_at walk limit t at n).end ≡ (run_at walk limit t next (n - i)).end) where
   pub run_done : n ≤ i → good tt ≡ ended (run_at walk limit t at n).end
   unfolding run_at ended
   run_done m = let e : n - i ≡ 0 = omega arith in sym (ap ended inv ∙ rw e)
 
-  module _ (l : i < n) (got : Step) (here : step_in_numbers got ≡ step_checked walk (curve_at_offset limit t next)) where
+  module _ (l : i < n) (got : Result ℕ Refusal) (here : step_in_numbers got ≡ step_checked walk (curve_at_offset limit t next)) where
     less : n - i ≡ suc (n - (i + 1))
     less = omega arith
 
     -- a step that does not go on ends the run with what it says
-    pub run_stop : (v : Verdict) → OneOf (1 ∷ []) (place_in steps.the_type got) → verdict_in_numbers v ≡ step_verdict (step_in_numbers got) → verdict_in_numbers v ≡ ended (run_at walk limit t at n).end
+    pub run_stop : (why : Refusal) → got ≡ Err why → bad (refusal_number why) ≡ ended (run_at walk limit t at n).end
     unfolding run_at ended
-    run_stop v k j = j ∙ by got refl k
-      where
-        by : (q : Step) → got ≡ q → OneOf (1 ∷ []) (place_in steps.the_type q) → step_verdict (step_in_numbers got) ≡ ended (run_at walk limit t at n).end
-        by (Step.On m) e o = absurd (omega arith)
-        by (Step.Refused why) e o =
-            let x = stepped_no walk (curve_at_offset limit t next) (sym (ap step_in_numbers e) ∙ here) in
-            ap (λ (q : Step). step_verdict (step_in_numbers q)) e ∙ sym (ap ended inv ∙ rw (less, x))
+    run_stop why e =
+        let x = stepped_no walk (curve_at_offset limit t next) (sym (ap step_in_numbers e) ∙ here) in
+        sym (ap ended inv ∙ rw (less, x))
 
-    pub run_again : (consumed next' : ℕ) → got ≡ Step.On consumed → next' ≡ aligned (next + consumed) → (run_at walk limit t at n).end ≡ (run_at walk limit t next' (n - (i + 1))).end
+    pub run_again : (consumed next' : ℕ) → got ≡ Ok consumed → next' ≡ aligned (next + consumed) → (run_at walk limit t at n).end ≡ (run_at walk limit t next' (n - (i + 1))).end
     run_again consumed next' e f =
         let w = stepped walk (curve_at_offset limit t next) (sym (ap step_in_numbers e) ∙ here) in
         inv ∙ ap (λ (k : ℕ). (run_at walk limit t next k).end) less ∙ ap (λ (r : Run). r.end) (run_turn walk limit t next (n - (i + 1)) w.shape w.seen) ∙ ap (λ (x : ℕ). (run_at walk limit t (aligned (next + x)) (n - (i + 1))).end) (sym w.step_is) ∙ ap (λ (x : ℕ). (run_at walk limit t x (n - (i + 1))).end) (sym f)
@@ -109,7 +97,7 @@ module _ (walk : Walk) (limit : ℕ) (t : List ℕ) (o n : ℕ) (s₀ s : List �
     pub slot_there : i * record_words + record_words ≤ length s
     slot_there = omega (arith, w.long)
 
-    module _ (slot' : List ℕ) (got : Step) (went : StepAndSlot walk (at + 12) (in_slot (take ((i * record_words + record_words) - i * record_words) (drop (i * record_words) s)) (curve_of limit (take (length t - at) (drop at t)))) got (take ((i * record_words + record_words) - i * record_words) (drop (i * record_words) s)) slot') where
+    module _ (slot' : List ℕ) (got : Result ℕ Refusal) (went : StepAndSlot walk (at + 12) (in_slot (take ((i * record_words + record_words) - i * record_words) (drop (i * record_words) s)) (curve_of limit (take (length t - at) (drop at t)))) got (take ((i * record_words + record_words) - i * record_words) (drop (i * record_words) s)) slot') where
       slot : List ℕ
       slot = take ((i * record_words + record_words) - i * record_words) (drop (i * record_words) s)
 
@@ -131,15 +119,11 @@ module _ (walk : Walk) (limit : ℕ) (t : List ℕ) (o n : ℕ) (s₀ s : List �
       unfolding slot
       going = went.step_is ∙ ap (step_checked walk) seen_next
 
-      pub write_never : OneOf (1 ∷ []) (place_in steps.the_type got) → ⊥
+      pub write_never : (why : Refusal) → got ≡ Err why → ⊥
       unfolding step_checked
-      write_never o = by got refl o
-        where
-          by : (q : Step) → got ≡ q → OneOf (1 ∷ []) (place_in steps.the_type q) → ⊥
-          by (Step.On m) e k = omega arith
-          by (Step.Refused why) e k = refused_good (sym (ap step_in_numbers e) ∙ going)
+      write_never why e = refused_good (sym (ap step_in_numbers e) ∙ going)
 
-      module _ (consumed : ℕ) (e : got ≡ Step.On consumed) where
+      module _ (consumed : ℕ) (e : got ≡ Ok consumed) where
         step_is : consumed ≡ step_of walk (next_is walk limit t o n s₀ s at i w l).shape
         unfolding step_checked
         step_is = let k = sym (ap step_in_numbers e) ∙ going in cc

@@ -13,12 +13,12 @@ pub record Few (n r : ℕ) : Type 0 where
 
 -- these are the runs of the tag
 pub record RunsOf (t : List ℕ) (p : Runs) : Type 0 where
-  pub a_at : p.a.0 ≡ a_offset t
-  pub m_at : p.m.0 ≡ m_offset t
-  pub b_at : p.b.0 ≡ b_offset t
-  pub a_curves_lem : Few (a_curves_of t) p.na
-  pub m_curves_lem : Few (m_curves_of t) p.nm
-  pub b_curves_lem : Few (b_curves_of t) p.nb
+  pub a_at : p.a.at.0 ≡ a_offset t
+  pub m_at : p.m.at.0 ≡ m_offset t
+  pub b_at : p.b.at.0 ≡ b_offset t
+  pub a_curves_lem : Few (a_curves_of t) p.a.curves
+  pub m_curves_lem : Few (m_curves_of t) p.m.curves
+  pub b_curves_lem : Few (b_curves_of t) p.b.curves
 
 -- one after the other
 unfoldable pub runs_checked : Walk → ℕ → List ℕ → Checked Unit

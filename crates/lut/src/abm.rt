@@ -12,7 +12,7 @@
 //   28 to 31  offset of the A curves
 //
 // Offsets count from the tag's first byte; a part whose offset is 0 is not there.
-ghost use Rattle.std.specs.Prelude.{◌≡◌, ◌&&◌, ◌++◌, ◌+◌, ◌*◌, ◌^◌, ◌≤◌, ◌<◌, ltb, eqb, length, drop};
+ghost use Rattle.std.specs.Prelude.{Some, Ok, ◌≡◌, ◌&&◌, ◌++◌, ◌+◌, ◌*◌, ◌^◌, ◌≤◌, ◌<◌, ltb, eqb, length, drop};
 ghost use Rattle.fields.specs.Checked.{good};
 ghost use Rattle.lut_clut_meaning.specs.Answer.{in_numbers as Clut·inNumbers, answer_of};
 ghost use Rattle.fields.specs.Bytes.{bytes_at};
@@ -23,16 +23,15 @@ ghost use Rattle.lut_meaning.specs.Lut.{AnswerAndSlots};
 ghost use Rattle.lut_meaning.specs.Parts.{matrix_checked, table_in, colour_table_of, RunsWhole, curves_of};
 ghost use Rattle.lut_meaning.specs.Answer.{in_numbers};
 ghost use Rattle.lut_meaning.specs.Layout.{to_pcs_of, inputs, outputs, device_channels, space_channels, present, grid_of, matrix_of, bias_of};
-ghost use Rattle.lut.specs.Passed.{Opened, TableGood};
+ghost use Rattle.lut.specs.Passed.{TableGood};
 ghost use Rattle.lut.specs.Runs.{Few, RunsOf, runs_checked};
 ghost use Rattle.lut.specs.Verdict.{verdict_in_numbers};
 
-use crate::nested::{RECORD_WORDS, Verdict};
-use crate::{answer, nested};
+use crate::nested::{self, RECORD_WORDS, Run};
 use curve::Walk;
 use fields::{InTag, Kind, Refusal};
-use lut_clut_meaning::{ClutAnswer, ColourTable};
-use lut_meaning::{AbmTable, Lut, LutAnswer};
+use lut_clut_meaning::ColourTable;
+use lut_meaning::{Abm, AbmTable, Lut};
 
 const INPUTS: InTag = InTag(8);
 
@@ -53,15 +52,12 @@ const MATRIX_BYTES: u64 = 48;
 
 const BIAS_FROM: u64 = 36;
 
-// Where the runs A, M and B start, and how many curves each has: read once, for the checks and the writing.
+// The runs A, M and B: read once, for the checks and the writing.
 #[derive(Clone, Copy)]
 struct Runs {
-    a: InTag,
-    na: u32,
-    m: InTag,
-    nm: u32,
-    b: InTag,
-    nb: u32,
+    a: Run,
+    m: Run,
+    b: Run,
 }
 
 // Whether the tag leads towards the connection space.
@@ -96,7 +92,7 @@ fn space_channels(tag: &[u8]) -> u8
 fn run_length(offset: u32, channels: u8) -> u32
     ensures { Few (present offset channels) result }
 {
-    if offset == 0 { 0 } else { channels as u32 }
+    if offset == 0 { 0 } else { u32::from(channels) }
 }
 
 // The runs of the tag.
@@ -109,107 +105,96 @@ fn find_runs(tag: &[u8]) -> Runs
     let m = fields::u32_at(tag, M_OFFSET);
     let b = fields::u32_at(tag, B_OFFSET);
     Runs {
-        a: InTag(a as u64),
-        na: run_length(a, device),
-        m: InTag(m as u64),
-        nm: run_length(m, space),
-        b: InTag(b as u64),
-        nb: run_length(b, space),
+        a: Run {
+            at: InTag(u64::from(a)),
+            curves: run_length(a, device),
+        },
+        m: Run {
+            at: InTag(u64::from(m)),
+            curves: run_length(m, space),
+        },
+        b: Run {
+            at: InTag(u64::from(b)),
+            curves: run_length(b, space),
+        },
     }
 }
 
 // Judges the three runs in order.
-fn check_runs(tag: &[u8], p: Runs, limit: u64, walk: Walk) -> Verdict
-    requires { (length tag.now < 2 ^ 32) × RunsOf tag.now p }
+fn check_runs(tag: &[u8], runs: Runs, limit: u64, walk: Walk) -> Result<(), Refusal>
+    requires { (length tag.now < 2 ^ 32) × RunsOf tag.now runs }
     ensures { verdict_in_numbers result ≡ runs_checked walk limit tag.now }
 {
-    let a_at = p.a;
-    let a = nested::check_run(tag, a_at, p.na, limit, walk);
-    let Verdict::Good = a else {
-        return a;
-    };
-    let m_at = p.m;
-    let m = nested::check_run(tag, m_at, p.nm, limit, walk);
-    let Verdict::Good = m else {
-        return m;
-    };
-    let b_at = p.b;
-    nested::check_run(tag, b_at, p.nb, limit, walk)
+    nested::check_run(tag, runs.a, limit, walk)?;
+    nested::check_run(tag, runs.m, limit, walk)?;
+    nested::check_run(tag, runs.b, limit, walk)
 }
 
 // Writes the records of the three runs, which were judged good: each from the slot where the one before ended.
-fn write_runs(tag: &[u8], p: Runs, limit: u64, walk: Walk, slots: &mut [u32])
-    requires { (length tag.now < 2 ^ 32) × RunsOf tag.now p × RunsWhole walk limit tag.now × ((p.na + p.nm + p.nb) * record_words ≤ length slots.old) }
-    ensures { slots.new ≡ records_of (curves_of walk limit tag.now) ++ drop ((p.na + p.nm + p.nb) * record_words) slots.old }
+fn write_runs(tag: &[u8], runs: Runs, limit: u64, walk: Walk, slots: &mut [u32])
+    requires { (length tag.now < 2 ^ 32) × RunsOf tag.now runs × RunsWhole walk limit tag.now × ((runs.a.curves + runs.m.curves + runs.b.curves) * record_words ≤ length slots.old) }
+    ensures { slots.new ≡ records_of (curves_of walk limit tag.now) ++ drop ((runs.a.curves + runs.m.curves + runs.b.curves) * record_words) slots.old }
 {
-    let na = p.na as usize;
-    let nm = p.nm as usize;
-    let a_at = p.a;
-    nested::write_run(tag, a_at, p.na, limit, walk, slots);
-    let m_at = p.m;
-    let first_m = na * RECORD_WORDS;
-    nested::write_run(tag, m_at, p.nm, limit, walk, &mut slots[first_m..]);
-    let b_at = p.b;
-    let first_b = (na + nm) * RECORD_WORDS;
-    nested::write_run(tag, b_at, p.nb, limit, walk, &mut slots[first_b..]);
+    let a_curves = runs.a.curves as usize;
+    let m_curves = runs.m.curves as usize;
+    nested::write_run(tag, runs.a, limit, walk, slots);
+    let first_m = a_curves * RECORD_WORDS;
+    nested::write_run(tag, runs.m, limit, walk, &mut slots[first_m..]);
+    let first_b = (a_curves + m_curves) * RECORD_WORDS;
+    nested::write_run(tag, runs.b, limit, walk, &mut slots[first_b..]);
 }
 
 // Whether there are curves B alone, or none.
-fn has_b_alone(p: Runs) -> bool
-    ensures { result ≡ eqb p.na 0 && eqb p.nm 0 }
+fn has_b_alone(runs: Runs) -> bool
+    ensures { result ≡ eqb runs.a.curves 0 && eqb runs.m.curves 0 }
 {
-    if p.na != 0 {
-        return false;
-    }
-    p.nm == 0
+    runs.a.curves == 0 && runs.m.curves == 0
 }
 
 // Judges the runs. Many tags have curves B alone, and then there is one run to walk.
-fn judge_runs(tag: &[u8], p: Runs, limit: u64, walk: Walk) -> Verdict
-    requires { (length tag.now < 2 ^ 32) × RunsOf tag.now p }
+fn judge_runs(tag: &[u8], runs: Runs, limit: u64, walk: Walk) -> Result<(), Refusal>
+    requires { (length tag.now < 2 ^ 32) × RunsOf tag.now runs }
     ensures { verdict_in_numbers result ≡ runs_checked walk limit tag.now }
 {
-    if has_b_alone(p) {
-        let at = p.b;
-        return nested::check_run(tag, at, p.nb, limit, walk);
+    if has_b_alone(runs) {
+        return nested::check_run(tag, runs.b, limit, walk);
     }
-    check_runs(tag, p, limit, walk)
+    check_runs(tag, runs, limit, walk)
 }
 
 // Writes the records of the runs, which were judged good.
-fn record_runs(tag: &[u8], p: Runs, limit: u64, walk: Walk, slots: &mut [u32])
-    requires { (length tag.now < 2 ^ 32) × RunsOf tag.now p × RunsWhole walk limit tag.now × ((p.na + p.nm + p.nb) * record_words ≤ length slots.old) }
-    ensures { slots.new ≡ records_of (curves_of walk limit tag.now) ++ drop ((p.na + p.nm + p.nb) * record_words) slots.old }
+fn record_runs(tag: &[u8], runs: Runs, limit: u64, walk: Walk, slots: &mut [u32])
+    requires { (length tag.now < 2 ^ 32) × RunsOf tag.now runs × RunsWhole walk limit tag.now × ((runs.a.curves + runs.m.curves + runs.b.curves) * record_words ≤ length slots.old) }
+    ensures { slots.new ≡ records_of (curves_of walk limit tag.now) ++ drop ((runs.a.curves + runs.m.curves + runs.b.curves) * record_words) slots.old }
 {
-    if has_b_alone(p) {
-        let at = p.b;
-        nested::write_run(tag, at, p.nb, limit, walk, slots);
+    if has_b_alone(runs) {
+        nested::write_run(tag, runs.b, limit, walk, slots);
         return;
     }
-    write_runs(tag, p, limit, walk, slots);
+    write_runs(tag, runs, limit, walk, slots);
 }
 
 // A matrix that is there lies in the tag, its bias with it.
-fn check_matrix(tag: &[u8]) -> Verdict
+fn check_matrix(tag: &[u8]) -> Result<(), Refusal>
     ensures { verdict_in_numbers result ≡ matrix_checked tag.now }
 {
     let at = fields::u32_at(tag, MATRIX_OFFSET);
     if at == 0 {
-        return Verdict::Good;
+        return Ok(());
     }
-    if (tag.len() as u64) < at as u64 + MATRIX_BYTES {
-        return Verdict::Refused(Refusal::TagTooShort);
+    if (tag.len() as u64) < u64::from(at) + MATRIX_BYTES {
+        return Err(Refusal::TagTooShort);
     }
-    Verdict::Good
+    Ok(())
 }
 
 // The colour table; one that is not there has no data, at 0.
-fn find_table(tag: &[u8]) -> ClutAnswer
+fn find_table(tag: &[u8]) -> Result<ColourTable, Refusal>
     ensures { Clut·inNumbers result ≡ answer_of (colour_table_of tag.now) }
 {
     let at = fields::u32_at(tag, CLUT_OFFSET);
     if at == 0 {
-        return ClutAnswer::Value(ColourTable {
+        return Ok(ColourTable {
             points: 1,
             start: InTag(0),
             length: 0,
@@ -218,7 +203,7 @@ fn find_table(tag: &[u8]) -> ClutAnswer
     }
     let inputs = fields::u8_at(tag, INPUTS);
     let outputs = fields::u8_at(tag, OUTPUTS);
-    lut_clut::read_clut(tag, InTag(at as u64), inputs, outputs)
+    lut_clut::read_clut(tag, InTag(u64::from(at)), inputs, outputs)
 }
 
 // Fills `out` with the bytes from `at` on, all of them in the tag.
@@ -226,10 +211,8 @@ fn fill_bytes(tag: &[u8], at: InTag, out: &mut [u8])
     requires { at.0 + length out.old ≤ length tag.now }
     ensures { out.new ≡ bytes_at tag.now at.0 (length out.old) }
 {
-    let mut i = 0;
-    while i < out.len() {
+    for i in 0..out.len() {
         out[i] = tag[at.0 as usize + i];
-        i += 1;
     }
 }
 
@@ -241,7 +224,7 @@ fn matrix(tag: &[u8]) -> [u32; 9]
     if at == 0 {
         return [65536, 0, 0, 0, 65536, 0, 0, 0, 65536];
     }
-    fields::nine_at(tag, InTag(at as u64))
+    fields::nine_at(tag, InTag(u64::from(at)))
 }
 
 fn bias(tag: &[u8]) -> [u32; 3]
@@ -251,7 +234,7 @@ fn bias(tag: &[u8]) -> [u32; 3]
     if at == 0 {
         return [0; 3];
     }
-    let behind = at as u64 + BIAS_FROM;
+    let behind = u64::from(at) + BIAS_FROM;
     let x = fields::u32_at(tag, InTag(behind));
     let y = fields::u32_at(tag, InTag(behind + 4));
     let z = fields::u32_at(tag, InTag(behind + 8));
@@ -266,33 +249,32 @@ fn grid(tag: &[u8]) -> [u8; 16]
     let at = fields::u32_at(tag, CLUT_OFFSET);
     let mut bytes = [0u8; 16];
     if at != 0 {
-        fill_bytes(tag, InTag(at as u64), &mut bytes);
+        fill_bytes(tag, InTag(u64::from(at)), &mut bytes);
     }
     bytes
 }
 
-// The answer for a tag that is good, with its runs and its colour table.
-fn value(tag: &[u8], p: Runs, table: ColourTable) -> Lut
-    requires { RunsOf tag.now p × TableGood tag.now table }
-    ensures { in_numbers result ≡ value_of tag.now }
+// What a good tag says, with its runs and its colour table.
+fn value(tag: &[u8], runs: Runs, table: ColourTable) -> Abm
+    requires { RunsOf tag.now runs × TableGood tag.now table }
+    ensures { in_numbers (Ok (Some (Lut.Abm result))) ≡ value_of tag.now }
 {
-    let start = table.start;
-    let answer = LutAnswer::Abm(AbmTable {
+    let table = AbmTable {
         to_pcs: to_pcs(tag),
         inputs: fields::u8_at(tag, INPUTS),
         outputs: fields::u8_at(tag, OUTPUTS),
-        clut_start: start,
+        clut_start: table.start,
         clut_length: table.length,
         entry_size: table.entry_size,
-        a_curves: p.na,
-        m_curves: p.nm,
-        b_curves: p.nb,
-    });
+        a_curves: runs.a.curves,
+        m_curves: runs.m.curves,
+        b_curves: runs.b.curves,
+    };
     let grid = grid(tag);
     let matrix = matrix(tag);
     let bias = bias(tag);
-    Lut {
-        answer,
+    Abm {
+        table,
         grid,
         matrix,
         bias,
@@ -303,68 +285,30 @@ fn value(tag: &[u8], p: Runs, table: ColourTable) -> Lut
 fn too_many_channels(tag: &[u8]) -> bool
     ensures { result ≡ ltb 4 (inputs tag.now) && ltb 4 (outputs tag.now) }
 {
-    if fields::u8_at(tag, INPUTS) <= 4 {
-        return false;
-    }
-    4 < fields::u8_at(tag, OUTPUTS)
+    4 < fields::u8_at(tag, INPUTS) && 4 < fields::u8_at(tag, OUTPUTS)
 }
 
-// Writes the records of a tag whose runs are good, if the slots suffice, and answers.
-fn write_records(
+// A tag of 48 bytes or more, of either type. Everything is judged first, and written once nothing can be refused.
+pub(crate) fn read_lut_abm_type(
     tag: &[u8],
-    p: Runs,
-    table: ColourTable,
     limit: u64,
     walk: Walk,
     slots: &mut [u32],
-) -> Lut
-    requires { (length tag.now < 2 ^ 32) × RunsOf tag.now p × Opened tag.now × TableGood tag.now table × RunsWhole walk limit tag.now }
-    ensures { AnswerAndSlots walk limit tag.now (abm_of walk limit tag.now (length slots.old)) result slots.old slots.new }
-{
-    let needed = p.na + p.nm + p.nb;
-    if slots.len() / RECORD_WORDS < needed as usize {
-        return answer::refused(Refusal::TooFewSlots);
-    }
-    record_runs(tag, p, limit, walk, slots);
-    value(tag, p, table)
-}
-
-// Judges the runs of a tag whose colour table is good, and goes on.
-fn read_runs(tag: &[u8], table: ColourTable, limit: u64, walk: Walk, slots: &mut [u32]) -> Lut
-    requires { (length tag.now < 2 ^ 32) × Opened tag.now × TableGood tag.now table }
-    ensures { AnswerAndSlots walk limit tag.now (abm_of walk limit tag.now (length slots.old)) result slots.old slots.new }
-{
-    let p = find_runs(tag);
-    let judged = judge_runs(tag, p, limit, walk);
-    match judged {
-        Verdict::Good => write_records(tag, p, table, limit, walk, slots),
-        Verdict::Refused(why) => answer::refused(why),
-    }
-}
-
-// Judges the colour table of a tag whose matrix is good, and goes on.
-fn read_parts(tag: &[u8], limit: u64, walk: Walk, slots: &mut [u32]) -> Lut
-    requires { (length tag.now < 2 ^ 32) × Opened tag.now }
-    ensures { AnswerAndSlots walk limit tag.now (abm_of walk limit tag.now (length slots.old)) result slots.old slots.new }
-{
-    let found = find_table(tag);
-    match found {
-        ClutAnswer::Value(table) => read_runs(tag, table, limit, walk, slots),
-        ClutAnswer::Refused(why) => answer::refused(why),
-    }
-}
-
-// A tag of 48 bytes or more, of either type.
-pub(crate) fn read_lut_abm_type(tag: &[u8], limit: u64, walk: Walk, slots: &mut [u32]) -> Lut
+) -> Result<Option<Lut>, Refusal>
     requires { length tag.now < 2 ^ 32 }
     ensures { AnswerAndSlots walk limit tag.now (abm_of walk limit tag.now (length slots.old)) result slots.old slots.new }
 {
     if too_many_channels(tag) {
-        return answer::absent();
+        return Ok(None);
     }
-    let judged = check_matrix(tag);
-    match judged {
-        Verdict::Good => read_parts(tag, limit, walk, slots),
-        Verdict::Refused(why) => answer::refused(why),
+    check_matrix(tag)?;
+    let table = find_table(tag)?;
+    let runs = find_runs(tag);
+    judge_runs(tag, runs, limit, walk)?;
+    let needed = runs.a.curves + runs.m.curves + runs.b.curves;
+    if slots.len() / RECORD_WORDS < needed as usize {
+        return Err(Refusal::TooFewSlots);
     }
+    record_runs(tag, runs, limit, walk, slots);
+    Ok(Some(Lut::Abm(value(tag, runs, table))))
 }

@@ -4,8 +4,8 @@ use Rattle.lut.proofs.Laws.{few_inputs, many_inputs}
 use borrow.Author.Rules.{rules}
 use Rattle.lut.proofs.abm.too_many_channels.Goals as goal
 
-pub returns-then-u8_at-le4 : goal.returns-then-u8_at-le4
-returns-then-u8_at-le4 c = search (rules, few_inputs)
+pub returns-then-u8_at-gt4 : goal.returns-then-u8_at-gt4
+returns-then-u8_at-gt4 c = search (rules, many_inputs)
 
-pub returns : goal.returns
-returns c = search (rules, many_inputs)
+pub returns-else-u8_at-gt4 : goal.returns-else-u8_at-gt4
+returns-else-u8_at-gt4 c = search (rules, few_inputs)

@@ -1,11 +1,7 @@
 -- `lut::nested::write_run` meets its contract: what is left to write makes of the slots what the whole run makes of them.
 -- Assumes nothing.
-use Prim.Native.Nat.{◌-◌}
 use Rattle.lut_run_meaning.proofs.Writing.{Writing}
 use Rattle.lut.proofs.nested.write_run.Given as goal
 
 abbrev pub invariant-loop-i : goal.invariant-loop-i
-invariant-loop-i l = Writing l.walk l.limit l.tag l.initial.next.0 l.n l.initial.slots l.slots l.next.0 l.i
-
-abbrev pub decreases-loop-i : goal.decreases-loop-i
-decreases-loop-i l = l.n - l.i
+invariant-loop-i l = Writing l.walk l.limit l.tag l.initial.next.0 l.fn.run.curves l.initial.slots l.slots l.next.0 l.i
