@@ -1,6 +1,6 @@
 -- The check of a table's length is the standard's, and a function's parameters are the numbers behind the head.
 -- Assumes nothing.
-use Prim.Native.Nat.{ℕ, zero, suc, ◌+◌, ◌-◌, ◌*◌, ◌/◌, ◌≤◌, ◌<◌}
+use Prim.Native.Nat.{ℕ, zero, suc, ◌+◌, ◌-◌, ◌*◌, ◌/◌, ◌^◌, ◌≤◌, ◌<◌}
 use native.Mathlib.Omega.{arith}
 use mathlib.Core.Path.{◌≡◌, refl, sym, ◌∙◌}
 use mathlib.Core.Bool.{Bool, true, false, cond, ◌&&◌}
@@ -8,17 +8,17 @@ use mathlib.Core.List.{List}
 use lib.Dec.{ltb, leb, eqb}
 use lib.Seq.{length-take-le}
 use lib.ListN.{length, get_or, take, drop, length-drop}
-use borrow.Author.Tests.{lt-ltb, le-ltb, ltb-true, ltb-false, eqb-true}
+use borrow.Author.Tests.{ne_eqb, lt-ltb, le-ltb, ltb-true, ltb-false, eqb-true}
 use Rattle.std.proofs.Common.{map}
 use Rattle.std.specs.Simd.{first_chunks}
 use Rattle.fields.specs.Bytes.{u32_at, words_at}
 use Rattle.fields.proofs.Append.{u32_append, words_append, front}
 use Rattle.fields.proofs.Written.{words_drop}
-use Rattle.curve_meaning.specs.Layout.{entries_end, parameter_count}
+use Rattle.curve_meaning.specs.Layout.{entry_count, entries_end, parameter_count}
 use Rattle.curve_meaning.specs.Layout.{function_type, parameters_end}
-use Rattle.curve_meaning.specs.Curve.{trc_of, curve_of, para_of, divides}
+use Rattle.curve_meaning.specs.Curve.{trc_of, curve_of, curv_of, para_of, divides}
 use Rattle.curve_meaning.specs.Kinds.{type_number}
-use Rattle.curve_meaning.specs.Shape.{para}
+use Rattle.curve_meaning.specs.Shape.{para, table_shape}
 use Rattle.curve_meaning.specs.declared.FunctionType.{FunctionType}
 use Rattle.curve_meaning.specs.declared.FunctionType.TheVariants.{Type0, Type1, Type2, Type3, Type4}
 use Rattle.fields.specs.Checked.{good, bad}
@@ -59,6 +59,37 @@ same_test l n h = by (ltb (entry_room l) n) refl
         let k : n ≤ entry_room l = ltb-false _ _ e in
         let m : entries_end n ≤ l = omega arith in
         sym (le-ltb _ _ m)
+
+module _ (limit : ℕ) (t : List ℕ) (n : ℕ) (h : n ≡ entry_count t) where
+  pub table_short : (n ≡ 0 → ⊥) → n ≤ limit → length t < 12 + 2 * n → bad 11 ≡ curv_of limit t
+  unfolding curv_of
+  table_short z l k = simp (← h, ne_eqb _ _ z, le-ltb _ _ l, lt-ltb _ _ k)
+
+  pub table_whole : (n ≡ 0 → ⊥) → n ≤ limit → 12 + 2 * n ≤ length t → good (table_shape n) ≡ curv_of limit t
+  unfolding curv_of table_shape
+  table_whole z l k = simp (← h, ne_eqb _ _ z, le-ltb _ _ l, le-ltb _ _ k)
+
+  -- the same by the room that the tag has, as the code tests it
+  module _ (z : n ≡ 0 → ⊥) (l : n ≤ limit) where
+    pub table_cut : length t < 12 → bad 11 ≡ curv_of limit t
+    table_cut c = table_short z l (omega arith)
+
+    module _ (c : 12 ≤ length t) where
+      pub table_no_room : entry_room (length t) < n → bad 11 ≡ curv_of limit t
+      unfolding curv_of
+      table_no_room k = simp (← h, ne_eqb _ _ z, le-ltb _ _ l, ← same_test (length t) n c, lt-ltb _ _ k)
+
+      pub table_room : n ≤ entry_room (length t) → good (table_shape n) ≡ curv_of limit t
+      unfolding curv_of table_shape
+      table_room k = simp (← h, ne_eqb _ _ z, le-ltb _ _ l, ← same_test (length t) n c, le-ltb _ _ k)
+
+-- the bytes of a function's parameters, and where they end
+module _ (type n : ℕ) (e : n ≡ parameter_count type) where
+  pub bytes_fit : 4 * n < 2 ^ 32
+  bytes_fit = let k = few type in omega arith
+
+  pub end_fits : 12 + 4 * n < 2 ^ 32
+  end_fits = let k = few type in omega arith
 
 -- the numbers of so many runs of four bytes
 chunked : (k : ℕ) (s : List ℕ) → 4 * k ≤ length s → map number_of (first_chunks 4 k s) ≡ words_at s 0 k

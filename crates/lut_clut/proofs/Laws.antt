@@ -10,7 +10,7 @@ use mathlib.Core.Bool.{Bool, true, false, cond}
 use mathlib.Core.List.{List, [], ◌∷◌, ◌++◌}
 use lib.ListN.{length, get_or, take, drop, drop_of_length-le}
 use lib.Seq.{drop-cons}
-use mir.Syntax.{w32}
+use mir.Syntax.{w32, w64}
 use mir.Val.{Fits}
 use borrow.Author.Tests.{ne_eqb, lt-ltb, le-ltb, le-leb, lt-leb}
 use Rattle.fields.specs.Some.{some}
@@ -22,6 +22,14 @@ use Rattle.lut_clut_meaning.specs.Answer.{Answer, value, refused, answer_of}
 use Rattle.lut_clut.specs.Counts.{counts_of, Counted, DataRead}
 use Rattle.lut_clut.specs.declared.Counts.{Counts}
 use Rattle.std.specs.Prelude.{Option, Some, None}
+
+-- ---- a product in 64 bits
+
+pub times_fits : (n by : ℕ) → n < 2 ^ 32 → by < 256 → Fits w64 (n * by)
+times_fits n by l m =
+    let a : n ≤ 0xFFFFFFFF = omega arith in
+    let b : by ≤ 255 = omega arith in
+    record { fits = omega (arith, mul-le-mul a b) }
 
 -- ---- the points and the entries
 

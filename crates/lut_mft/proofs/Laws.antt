@@ -2,7 +2,8 @@
 -- Assumes nothing.
 use Prim.Native.Nat.{ℕ, ◌+◌, ◌*◌, ◌^◌, ◌≤◌, ◌<◌}
 use native.Mathlib.Omega.{arith}
-use native.Mathlib.Nat.{mul-le-mul}
+use native.Mathlib.Numerals.{add-one}
+use native.Mathlib.Nat.{mul-le-mul, pow-suc}
 use mathlib.Core.Path.{◌≡◌, refl, sym, ◌∙◌}
 use mathlib.Core.Bool.{Bool, true, false}
 use mathlib.Core.List.{List}
@@ -22,8 +23,17 @@ use Rattle.lut_mft_meaning.specs.Answer.{State, value, refused, fields_from, fie
 use Rattle.lut_mft_meaning.specs.Layout.{is_wide, is_mft, shortest, inputs, grid_points, input_entries_of, output_entries_of, entry_size_of, tables_start, entries_at, colour_table}
 use Rattle.lut_mft_meaning.specs.Mft.{outside, most_table_entries, bad_entries, bad_channels, bad_numbers, tables_of, numbers_of, mft_of}
 use Rattle.lut_mft_meaning.specs.declared.MftTable.{MftTable}
+use Rattle.lut_mft_meaning.proofs.Inside.{power_most}
 use Rattle.lut_mft_meaning.proofs.Laid.{good}
 use Rattle.lut_mft.specs.Sized.{Sized}
+
+-- a grid byte to the power of at most four channels: each product on the way fits 32 bits
+module _ (g p i : ℕ) (e : p ≡ g ^ i) (n : ℕ) (l : i < n) (m : n ≤ 4) (b : g < 256) where
+  pub power_stays : p * g < 2 ^ 32
+  power_stays =
+      let j : i + 1 ≤ 4 = omega arith in
+      let q : p * g ≡ g ^ (i + 1) = rw (e, add-one) (sym (pow-suc g i)) in
+      rw q (omega (arith, power_most g (i + 1) b j))
 
 -- ---- what the type decides
 
