@@ -7,7 +7,7 @@ fn main() {
     let n = io::read_full(0, &mut job);
     let mut line = [0u8; 256];
     let end = curve_line_text::curve_line(&job[..n], &mut line);
-    if end <= line.len() {
-        io::write_all(1, &line[..end]);
+    if let Some(text) = line.get(..end) {
+        io::write_all(1, text);
     }
 }

@@ -1,14 +1,14 @@
--- A job is taken apart check by check, and the pieces of a line make the whole.
+-- A job that is taken apart has a whole head, and the pieces of a line make the whole.
 -- Assumes nothing.
-use Prim.Native.Nat.{ℕ, ◌-◌, ◌≤◌, ◌<◌}
+use Prim.Native.Nat.{ℕ, ◌-◌, ◌≤◌}
 use native.Mathlib.Omega.{arith}
 use mathlib.Core.Path.{◌≡◌, refl, sym, ap, ◌∙◌}
 use mathlib.Core.Bool.{Bool, true, false, cond}
 use mathlib.Core.List.{List, [], ◌∷◌}
 use lib.Dec.{ltb, eqb}
 use lib.ListN.{length, get_or, take, drop}
-use borrow.Author.Tests.{eq-eqb, ne_eqb, lt-ltb, le-ltb, ltb-false, eqb-true}
-use Rattle.fields.specs.Bytes.{u32_at}
+use borrow.Author.Tests.{eq-eqb, ne_eqb, ltb-false, eqb-true}
+use Rattle.std.proofs.Common.{Option, Some, None}
 use Rattle.fields.specs.House.{house_entries}
 use Rattle.fields.proofs.Located.{rest_is}
 use Rattle.fields.proofs.Never.{never}
@@ -21,43 +21,17 @@ use Rattle.export_words.proofs.Telling.{was_told}
 use Rattle.export_curve.specs.Layout.{curve_exported, curve_layout}
 use Rattle.lines.specs.Text.{Wrote, number, row_from, word_text}
 use Rattle.lines.proofs.Writing.{joined}
-use Rattle.curve_line_text.specs.CurveLine.{most_bytes, job_of, value_text, absent_text, refused_text, bad_job_text, exported_text, text_for, text_of}
+use Rattle.curve_line_text.specs.CurveLine.{job_of, value_text, absent_text, refused_text, bad_job_text, exported_text, text_for, text_of}
 use Rattle.curve_line_text.specs.declared.CurveJob.{CurveJob}
 
 -- ---- a job taken apart
 
-module _ (job : List ℕ) where
-  pub job_short : length job < 13 → CurveJob.BadJob ≡ job_of job
-  unfolding job_of
-  job_short h = simp (lt-ltb _ _ h)
-
-  module _ (h : 13 ≤ length job) where
-    pub job_long : most_bytes < length job → CurveJob.BadJob ≡ job_of job
-    unfolding job_of
-    job_long l = simp (le-ltb _ _ h, lt-ltb _ _ l)
-
-    module _ (l : length job ≤ most_bytes) (version : ℕ) (v : version ≡ get_or job 0 0) where
-      pub job_version : (version ≡ 1 → ⊥) → CurveJob.BadJob ≡ job_of job
-      unfolding job_of
-      job_version n = simp (le-ltb _ _ h, le-ltb _ _ l, ← v, ne_eqb _ _ n)
-
-      module _ (one : version ≡ 1) (size : ℕ) (s : size ≡ u32_at job 1) where
-        pub job_length : (size ≡ length job - 13 → ⊥) → CurveJob.BadJob ≡ job_of job
-        unfolding job_of
-        job_length n = simp (le-ltb _ _ h, le-ltb _ _ l, ← v, eq-eqb _ _ one, ← s, ne_eqb _ _ n)
-
-        pub job_tag : (offset tag : ℕ) → size ≡ length job - 13 → offset ≡ u32_at job 5 → tag ≡ u32_at job 9 → CurveJob.Tag offset tag ≡ job_of job
-        unfolding job_of
-        job_tag offset tag e f g = simp (le-ltb _ _ h, le-ltb _ _ l, ← v, eq-eqb _ _ one, ← s, eq-eqb _ _ e, ← f, ← g)
-
-pub ruleset job-laws = (job_short, job_long, job_version, job_length, job_tag)
-
 -- a tag is asked for behind a whole head
-head_by : (n : ℕ) (t : Bool) (x : CurveJob) {offset size : ℕ} → ltb n 13 ≡ t → cond t CurveJob.BadJob x ≡ CurveJob.Tag offset size → 13 ≤ n
+head_by : (n : ℕ) (t : Bool) (x : Option CurveJob) {asked : CurveJob} → ltb n 13 ≡ t → cond t None x ≡ Some asked → 13 ≤ n
 head_by n true x h e = never cc
 head_by n false x h e = ltb-false _ _ h
 
-pub whole_head : (job : List ℕ) {r : CurveJob} {offset size : ℕ} → r ≡ job_of job → r ≡ CurveJob.Tag offset size → 13 ≤ length job
+pub whole_head : (job : List ℕ) {r : Option CurveJob} {asked : CurveJob} → r ≡ job_of job → r ≡ Some asked → 13 ≤ length job
 unfolding job_of
 whole_head job h e = head_by (length job) (ltb (length job) 13) _ refl (sym h ∙ e)
 
@@ -91,14 +65,14 @@ told_text t {r} {out} {out'} h g =
     (first_arm (eqb t.status 0) _ _ _
     (λ z. ap value_text (g.out_is ∙ fill_begins t.words out (h ∙ sym (g.as_laid_out (eqb-true _ _ z))))))
 
-module _ (job : List ℕ) {asked : CurveJob} (h : asked ≡ job_of job) {k l : List ℕ} {b : ℕ} where
-  pub line_bad : asked ≡ CurveJob.BadJob → Wrote k l 0 b bad_job_text → Wrote k l 0 b (text_of job)
+module _ (job : List ℕ) {asked : Option CurveJob} (h : asked ≡ job_of job) {k l : List ℕ} {b : ℕ} where
+  pub line_bad : asked ≡ None → Wrote k l 0 b bad_job_text → Wrote k l 0 b (text_of job)
   unfolding text_of text_for
   line_bad e u = rw (← h, e) u
 
-  pub line_told : {offset size r : ℕ} {out out' : List ℕ} → asked ≡ CurveJob.Tag offset size → length out ≡ curve_layout.words → Gave (always curve_layout) (within curve_layout.words out (curve_exported (trc_of Crate house_entries (take (length job - 13) (drop 13 job)) offset size))) r out out' → Wrote k l 0 b (exported_text record { status = r; words = out' }) → Wrote k l 0 b (text_of job)
+  pub line_told : {tag : CurveJob} {r : ℕ} {out out' : List ℕ} → asked ≡ Some tag → length out ≡ curve_layout.words → Gave (always curve_layout) (within curve_layout.words out (curve_exported (trc_of Crate house_entries (take (length job - 13) (drop 13 job)) tag.offset tag.size))) r out out' → Wrote k l 0 b (exported_text record { status = r; words = out' }) → Wrote k l 0 b (text_of job)
   unfolding text_of text_for
-  line_told {offset} {size} {r} {out} {out'} e n g u =
-      let t = curve_exported (trc_of Crate house_entries (drop 13 job) offset size) in
+  line_told {tag} {r} {out} {out'} e n g u =
+      let t = curve_exported (trc_of Crate house_entries (drop 13 job) tag.offset tag.size) in
       let w = told_text t n (was_told curve_layout.words (omega arith) (rw (rest_is job 13) at g)) in
       rw (← h, e) (rw w at u)

@@ -11,6 +11,7 @@ use Rattle.curve_meaning.specs.Shape.{record_words}
 use Rattle.export_words.specs.Exported.{Exported}
 use Rattle.export_curve.specs.Layout.{curve_layout}
 use Rattle.lines.proofs.Size.{number_size, words_size}
+use Rattle.std.proofs.Common.{Option, Some, None}
 use Rattle.curve_line_text.specs.CurveLine.{value_text, refused_text, exported_text, text_for, job_of, text_of}
 use Rattle.curve_line_text.specs.declared.CurveJob.{CurveJob}
 
@@ -33,10 +34,10 @@ exported_size e =
     each P (eqb e.status 0) _ _ (λ _. value_size e.words)
     (λ _. each P (eqb e.status 100) _ _ (λ _. omega arith) (λ _. refused_size e.status))
 
-text_size : (profile : List ℕ) (j : CurveJob) → length (text_for profile j) ≤ 256
+text_size : (profile : List ℕ) (j : Option CurveJob) → length (text_for profile j) ≤ 256
 unfolding text_for
-text_size profile (CurveJob.Tag offset size) = exported_size _
-text_size profile CurveJob.BadJob = omega arith
+text_size profile (Some asked) = exported_size _
+text_size profile None = omega arith
 
 pub room : (job : List ℕ) → length (text_of job) ≤ 256
 unfolding text_of

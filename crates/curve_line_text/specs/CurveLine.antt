@@ -5,7 +5,7 @@
 --    5 to  8  the tag's offset
 --    9 to 12  the tag's size
 --   13 on     the profile
-use Rattle.std.specs.Prelude.{ℕ, ◌-◌, cond, List, [], ◌∷◌, ◌++◌, ltb, eqb, length, get_or, take, drop}
+use Rattle.std.specs.Prelude.{ℕ, ◌-◌, cond, List, [], ◌∷◌, ◌++◌, ltb, eqb, length, get_or, take, drop, Option, Some, None}
 use Rattle.fields.specs.Bytes.{u32_at}
 use Rattle.fields.specs.House.{house_entries}
 use Rattle.curve_meaning.specs.Curve.{trc_of}
@@ -20,14 +20,14 @@ use Rattle.curve_line_text.specs.declared.CurveJob.{CurveJob}
 abbrev pub most_bytes : ℕ
 most_bytes = 65536
 
--- what a job asks for
-unfoldable pub job_of : List ℕ → CurveJob
+-- what a job asks for, if it is one
+unfoldable pub job_of : List ℕ → Option CurveJob
 job_of job =
-    cond (ltb (length job) 13) CurveJob.BadJob (
-    cond (ltb most_bytes (length job)) CurveJob.BadJob (
+    cond (ltb (length job) 13) None (
+    cond (ltb most_bytes (length job)) None (
     cond (eqb (get_or job 0 0) 1)
-    (cond (eqb (u32_at job 1) (length job - 13)) (CurveJob.Tag (u32_at job 5) (u32_at job 9)) CurveJob.BadJob)
-    CurveJob.BadJob))
+    (cond (eqb (u32_at job 1) (length job - 13)) (Some record { offset = u32_at job 5; size = u32_at job 9 }) None)
+    None))
 
 -- "curve value", and the words of the record on a line of their own; the consumed size behind them is not printed
 unfoldable pub value_text : List ℕ → List ℕ
@@ -55,9 +55,9 @@ unfoldable pub exported_text : Exported → List ℕ
 exported_text e = cond (eqb e.status 0) (value_text e.words) (cond (eqb e.status 100) absent_text (refused_text e.status))
 
 -- what a job asks for is read on the crate walk, with the house default
-unfoldable pub text_for : List ℕ → CurveJob → List ℕ
-text_for profile (CurveJob.Tag offset size) = exported_text (curve_exported (trc_of Crate house_entries profile offset size))
-text_for profile CurveJob.BadJob = bad_job_text
+unfoldable pub text_for : List ℕ → Option CurveJob → List ℕ
+text_for profile (Some asked) = exported_text (curve_exported (trc_of Crate house_entries profile asked.offset asked.size))
+text_for profile None = bad_job_text
 
 -- the text of a job
 unfoldable pub text_of : List ℕ → List ℕ

@@ -2,8 +2,7 @@
 // the library asks it, and the text is printed from the words that it tells.
 #![tactic(auto)]
 
-ghost use Rattle.std.specs.Prelude.{◌≡◌, length};
-ghost use Rattle.export_curve.specs.Layout.{curve_layout};
+ghost use Rattle.std.specs.Prelude.{◌≡◌};
 ghost use Rattle.lines.specs.Text.{Wrote};
 ghost use Rattle.curve_line_text.specs.CurveLine.{job_of, exported_text, text_of};
 
@@ -13,55 +12,58 @@ use export_words::{ABSENT, VALUE};
 use fields::InTag;
 
 // What a job of `curve-line` asks for: the tag of that size at that offset of the profile, which stands behind the head.
-#[derive(Clone, Copy)]
-pub enum CurveJob {
-    Tag { offset: u32, size: u32 },
-    BadJob,
+#[derive(Clone, Copy, Debug, PartialEq, Eq)]
+pub struct CurveJob {
+    pub offset: u32,
+    pub size: u32,
 }
 
 // The longest job of `curve-line`.
 pub const MAX_CURVE_JOB: usize = 65_536;
 
-// Takes a job of `curve-line` apart.
-pub fn read_curve_job(job: &[u8]) -> CurveJob
+// Takes a job of `curve-line` apart, if it is one.
+#[tactic(auto, unfolding(crate::specs::CurveLine::job_of))]
+pub fn read_curve_job(job: &[u8]) -> Option<CurveJob>
     ensures { result ≡ job_of job.now }
 {
     if job.len() < 13 {
-        return CurveJob::BadJob;
+        return None;
     }
     if MAX_CURVE_JOB < job.len() {
-        return CurveJob::BadJob;
+        return None;
     }
     let version = fields::u8_at(job, InTag(0));
     if version != 1 {
-        return CurveJob::BadJob;
+        return None;
     }
     let length = fields::u32_at(job, InTag(1));
     if length as usize != job.len() - 13 {
-        return CurveJob::BadJob;
+        return None;
     }
     let offset = fields::u32_at(job, InTag(5));
     let size = fields::u32_at(job, InTag(9));
-    CurveJob::Tag { offset, size }
+    Some(CurveJob { offset, size })
 }
 
 // Writes the text of what was told from the start of `out` on.
-fn put_exported(out: &mut [u8], status: u32, words: &[u64]) -> usize
-    requires { length words.now ≡ curve_layout.words }
+fn put_exported(out: &mut [u8], status: u32, words: &[u64; 11]) -> usize
     ensures { Wrote out.old out.new 0 result (exported_text record { status = status; words = words.now }) }
 {
-    if status == VALUE {
-        let word = lines::put(out, 0, b"curve value");
-        let first = lines::put_number(out, word, b'\n', words[0]);
-        let rest = lines::put_words(out, first, &words[..RECORD_WORDS], 1, CURVE.from, CURVE.to);
-        return lines::put(out, rest, b"\n");
+    match status {
+        VALUE => {
+            let word = lines::put(out, 0, b"curve value");
+            let first = lines::put_number(out, word, b'\n', words[0]);
+            let record = &words[..RECORD_WORDS];
+            let rest = lines::put_words(out, first, record, 1, CURVE.from, CURVE.to);
+            lines::put(out, rest, b"\n")
+        }
+        ABSENT => lines::put(out, 0, b"curve absent\n"),
+        _ => {
+            let word = lines::put(out, 0, b"curve refused");
+            let number = lines::put_number(out, word, b' ', status as u64);
+            lines::put(out, number, b"\n")
+        }
     }
-    if status == ABSENT {
-        return lines::put(out, 0, b"curve absent\n");
-    }
-    let word = lines::put(out, 0, b"curve refused");
-    let number = lines::put_number(out, word, b' ', status as u64);
-    lines::put(out, number, b"\n")
 }
 
 // Writes what `curve-line` prints for a job from the start of `out` on, as far as there is room, and answers where it ends. The curve is
@@ -69,15 +71,14 @@ fn put_exported(out: &mut [u8], status: u32, words: &[u64]) -> usize
 pub fn curve_line(job: &[u8], out: &mut [u8]) -> usize
     ensures { Wrote out.old out.new 0 result (text_of job.now) }
 {
-    let asked = read_curve_job(job);
-    let CurveJob::Tag { offset, size } = asked else {
+    let Some(asked) = read_curve_job(job) else {
         return lines::put(out, 0, b"bad job\n");
     };
     let mut words = [0u64; 11];
     let status = exports::khalyksor_read_trc_tag(
         &job[13..],
-        offset,
-        size,
+        asked.offset,
+        asked.size,
         fields::MAX_ALLOWED_TRC_SIZE,
         0,
         &mut words,
