@@ -8,7 +8,7 @@ use mathlib.Core.Path.{◌≡◌, refl, sym, ap, ◌∙◌}
 use mathlib.Core.List.{List, [], ◌∷◌, ◌++◌}
 use lib.ListN.{length, get_or, set, length-set}
 use lib.Seq.{sets, length-sets}
-use mir.Syntax.{w32, w64}
+use mir.Syntax.{w16, w32, w64}
 use mir.Val.{Fits}
 use Rattle.evaluate_meaning.specs.Colour.{blend, sample_at}
 use Rattle.evaluate_meaning.proofs.Blend.{blend_none, blend_small, sum_small, nearest}
@@ -16,34 +16,34 @@ use Rattle.evaluate.specs.Corners.{line_of, plane_of, cube_of, four_of, channels
 
 -- ---- a mix
 
-module _ (low high r : ℕ) (a : low < 65536) (b : high < 65536) (l : r ≤ 65535) where
+module _ (low high r : ℕ) (a : low < 65536) (b : high < 65536) (l : r < 65536) where
+  sum_most : low * (65535 - r) + high * r ≤ 65535 * 65535
+  sum_most = sum_small low high r a b (omega arith)
+
   pub low_fits : Fits w32 (low * (65535 - r))
-  low_fits = record { fits = omega (arith, sum_small low high r a b l) }
+  low_fits = record { fits = omega (arith, sum_most) }
 
   pub high_fits : Fits w32 (high * r)
-  high_fits = record { fits = omega (arith, sum_small low high r a b l) }
+  high_fits = record { fits = omega (arith, sum_most) }
 
   pub sum_fits : Fits w32 (low * (65535 - r) + high * r)
-  sum_fits = record { fits = omega (arith, sum_small low high r a b l) }
+  sum_fits = record { fits = omega (arith, sum_most) }
 
   module _ (h : ℕ) (k : h ≤ 32768) where
     pub half_fits : Fits w32 (low * (65535 - r) + high * r + h)
-    half_fits = record { fits = omega (arith, sum_small low high r a b l) }
+    half_fits = record { fits = omega (arith, sum_most) }
 
     pub carry_fits : Fits w32 (low * (65535 - r) + high * r + h + (low * (65535 - r) + high * r + h) / 65536)
-    carry_fits = record { fits = omega (arith, sum_small low high r a b l) }
+    carry_fits = record { fits = omega (arith, sum_most) }
 
-  rounded : (low * (65535 - r) + high * r + 32768 + (low * (65535 - r) + high * r + 32768) / 65536) / 65536 ≡ blend low high r
+  pub mixed : (low * (65535 - r) + high * r + 32768 + (low * (65535 - r) + high * r + 32768) / 65536) / 65536 ≡ blend low high r
   unfolding blend
-  rounded = nearest (low * (65535 - r) + high * r) (sum_small low high r a b l)
+  mixed = nearest (low * (65535 - r) + high * r) sum_most
 
-  pub mixed : (x : ℕ) → x ≡ (low * (65535 - r) + high * r + 32768 + (low * (65535 - r) + high * r + 32768) / 65536) / 65536 → x ≡ blend low high r
-  mixed x e = e ∙ rounded
+  pub mixed_fits : Fits w16 ((low * (65535 - r) + high * r + 32768 + (low * (65535 - r) + high * r + 32768) / 65536) / 65536)
+  mixed_fits = record { fits = omega (arith, mixed, blend_small low high r a b (omega arith)) }
 
-  pub mixed_small : (low * (65535 - r) + high * r + 32768 + (low * (65535 - r) + high * r + 32768) / 65536) / 65536 < 65536
-  mixed_small = omega (arith, rounded, blend_small low high r a b l)
-
-pub ruleset mix-fits = (low_fits, high_fits, sum_fits, half_fits, carry_fits)
+pub ruleset mix-fits = (low_fits, high_fits, sum_fits, half_fits, carry_fits, mixed_fits)
 
 -- ---- an entry: one byte stands for both
 
@@ -77,7 +77,7 @@ module _ (t : List ℕ) (size at u r y low high : ℕ) where
       unfolding cube_of
       cubed a b e = rw (← a, ← b) e
 
-      foured : (z p : ℕ) → low ≡ cube_of t size at u r v s w q → high ≡ cube_of t size (at + z) u r v s w q → y ≡ blend low high p → y ≡ four_of t size at u r v s w q z p
+      pub foured : (z p : ℕ) → low ≡ cube_of t size at u r v s w q → high ≡ cube_of t size (at + z) u r v s w q → y ≡ blend low high p → y ≡ four_of t size at u r v s w q z p
       unfolding four_of
       foured z p a b e = rw (← a, ← b) e
 
@@ -118,7 +118,7 @@ pub ruleset places-in = (second_in, third_in, second_of_four, third_of_four, fou
 
 module _ (t : List ℕ) (size at u r v s w q z p : ℕ) (o : List ℕ) (to a b c : ℕ) (e : a ≡ four_of t size at u r v s w q z p)
     (f : b ≡ four_of t size (at + size) u r v s w q z p) (g : c ≡ four_of t size (at + size + size) u r v s w q z p) where
-  three_of : set (set (set o to a) (to + 1) b) (to + 2) c ≡ sets o to (channels_of t size at u r v s w q z p 3)
+  pub three_of : set (set (set o to a) (to + 1) b) (to + 2) c ≡ sets o to (channels_of t size at u r v s w q z p 3)
   unfolding channels_of
   three_of =
       let i : to + 1 ≡ suc to = add-one to in
@@ -146,61 +146,19 @@ module _ (t : List ℕ) (size at u r : ℕ) (o : List ℕ) (to a b c : ℕ) wher
       three_of t size at u r v s 0 0 0 0 o to a b c (e ∙ plane_four t size at u r v s)
       (f ∙ plane_four t size (at + size) u r v s) (g ∙ plane_four t size (at + size + size) u r v s)
 
--- with the places as the code writes them, for entries of one byte and of two
+  pub three_cubes : (v s w q : ℕ) → a ≡ cube_of t size at u r v s w q → b ≡ cube_of t size (at + size) u r v s w q → c ≡ cube_of t size (at + size + size) u r v s w q
+      → set (set (set o to a) (to + 1) b) (to + 2) c ≡ sets o to (channels_of t size at u r v s w q 0 0 3)
+  three_cubes v s w q e f g =
+      three_of t size at u r v s w q 0 0 o to a b c (e ∙ cube_four t size at u r v s w q 0)
+      (f ∙ cube_four t size (at + size) u r v s w q 0) (g ∙ cube_four t size (at + size + size) u r v s w q 0)
 
-module _ (t : List ℕ) (at u r v s w q : ℕ) (o : List ℕ) (to a b c : ℕ) where
-  module _ (size : ℕ) (e : a ≡ cube_of t size at u r v s w q) (f : b ≡ cube_of t size (at + size) u r v s w q) (second : ℕ) (k : second ≡ at + size + size) (g : c ≡ cube_of t size second u r v s w q) where
-    third : c ≡ cube_of t size (at + size + size) u r v s w q
-    third = rw k at g
-
-    cubes : set (set (set o to a) (to + 1) b) (to + 2) c ≡ sets o to (channels_of t size at u r v s w q 0 0 3)
-    cubes =
-        three_of t size at u r v s w q 0 0 o to a b c (e ∙ cube_four t size at u r v s w q 0)
-        (f ∙ cube_four t size (at + size) u r v s w q 0) (third ∙ cube_four t size (at + size + size) u r v s w q 0)
-
-    cubes4 : (d last : ℕ) → last ≡ at + size + size + size → d ≡ cube_of t size last u r v s w q
-        → set (set (set (set o to a) (to + 1) b) (to + 2) c) (to + 3) d ≡ sets o to (channels_of t size at u r v s w q 0 0 4)
-    cubes4 d last l h =
-        four_of_lem t size at u r v s w q 0 0 o to a b c (e ∙ cube_four t size at u r v s w q 0)
-        (f ∙ cube_four t size (at + size) u r v s w q 0) (third ∙ cube_four t size (at + size + size) u r v s w q 0)
-        d ((rw l at h) ∙ cube_four t size (at + size + size + size) u r v s w q 0)
-
-  pub three_bytes : a ≡ cube_of t 1 at u r v s w q → b ≡ cube_of t 1 (at + 1) u r v s w q → c ≡ cube_of t 1 (at + 2) u r v s w q
-      → set (set (set o to a) (to + 1) b) (to + 2) c ≡ sets o to (channels_of t 1 at u r v s w q 0 0 3)
-  three_bytes e f g = cubes 1 e f (at + 2) (omega arith) g
-
-  pub three_words : a ≡ cube_of t 2 at u r v s w q → b ≡ cube_of t 2 (at + 2) u r v s w q → c ≡ cube_of t 2 (at + 4) u r v s w q
-      → set (set (set o to a) (to + 1) b) (to + 2) c ≡ sets o to (channels_of t 2 at u r v s w q 0 0 3)
-  three_words e f g = cubes 2 e f (at + 4) (omega arith) g
-
-  pub four_bytes : (d : ℕ) → a ≡ cube_of t 1 at u r v s w q → b ≡ cube_of t 1 (at + 1) u r v s w q → c ≡ cube_of t 1 (at + 2) u r v s w q → d ≡ cube_of t 1 (at + 3) u r v s w q
-      → set (set (set (set o to a) (to + 1) b) (to + 2) c) (to + 3) d ≡ sets o to (channels_of t 1 at u r v s w q 0 0 4)
-  four_bytes d e f g h = cubes4 1 e f (at + 2) (omega arith) g d (at + 3) (omega arith) h
-
-  pub four_words : (d : ℕ) → a ≡ cube_of t 2 at u r v s w q → b ≡ cube_of t 2 (at + 2) u r v s w q → c ≡ cube_of t 2 (at + 4) u r v s w q → d ≡ cube_of t 2 (at + 6) u r v s w q
-      → set (set (set (set o to a) (to + 1) b) (to + 2) c) (to + 3) d ≡ sets o to (channels_of t 2 at u r v s w q 0 0 4)
-  four_words d e f g h = cubes4 2 e f (at + 4) (omega arith) g d (at + 6) (omega arith) h
-
--- two cubes a channel
-
-module _ (t : List ℕ) (at u r v s w q z p : ℕ) (o : List ℕ) (to a b c a0 a1 b0 b1 c0 c1 : ℕ) (ax : a ≡ blend a0 a1 p) (bx : b ≡ blend b0 b1 p) (cx : c ≡ blend c0 c1 p) where
-  fours : (size : ℕ) → a0 ≡ cube_of t size at u r v s w q → a1 ≡ cube_of t size (at + z) u r v s w q → b0 ≡ cube_of t size (at + size) u r v s w q → b1 ≡ cube_of t size (at + size + z) u r v s w q
-      → (second : ℕ) → second ≡ at + size + size → c0 ≡ cube_of t size second u r v s w q → c1 ≡ cube_of t size (second + z) u r v s w q
-      → set (set (set o to a) (to + 1) b) (to + 2) c ≡ sets o to (channels_of t size at u r v s w q z p 3)
-  fours size e0 e1 f0 f1 second k g0 g1 =
-      three_of t size at u r v s w q z p o to a b c (foured t size at u r a a0 a1 v s w q z p e0 e1 ax)
-      (foured t size (at + size) u r b b0 b1 v s w q z p f0 f1 bx)
-      (foured t size (at + size + size) u r c c0 c1 v s w q z p (rw k at g0) (rw k at g1) cx)
-
-  pub fours_bytes : a0 ≡ cube_of t 1 at u r v s w q → a1 ≡ cube_of t 1 (at + z) u r v s w q → b0 ≡ cube_of t 1 (at + 1) u r v s w q → b1 ≡ cube_of t 1 (at + 1 + z) u r v s w q
-      → c0 ≡ cube_of t 1 (at + 2) u r v s w q → c1 ≡ cube_of t 1 (at + 2 + z) u r v s w q
-      → set (set (set o to a) (to + 1) b) (to + 2) c ≡ sets o to (channels_of t 1 at u r v s w q z p 3)
-  fours_bytes e0 e1 f0 f1 g0 g1 = fours 1 e0 e1 f0 f1 (at + 2) (omega arith) g0 g1
-
-  pub fours_words : a0 ≡ cube_of t 2 at u r v s w q → a1 ≡ cube_of t 2 (at + z) u r v s w q → b0 ≡ cube_of t 2 (at + 2) u r v s w q → b1 ≡ cube_of t 2 (at + 2 + z) u r v s w q
-      → c0 ≡ cube_of t 2 (at + 4) u r v s w q → c1 ≡ cube_of t 2 (at + 4 + z) u r v s w q
-      → set (set (set o to a) (to + 1) b) (to + 2) c ≡ sets o to (channels_of t 2 at u r v s w q z p 3)
-  fours_words e0 e1 f0 f1 g0 g1 = fours 2 e0 e1 f0 f1 (at + 4) (omega arith) g0 g1
+  pub four_cubes : (v s w q d : ℕ) → a ≡ cube_of t size at u r v s w q → b ≡ cube_of t size (at + size) u r v s w q → c ≡ cube_of t size (at + size + size) u r v s w q
+      → d ≡ cube_of t size (at + size + size + size) u r v s w q
+      → set (set (set (set o to a) (to + 1) b) (to + 2) c) (to + 3) d ≡ sets o to (channels_of t size at u r v s w q 0 0 4)
+  four_cubes v s w q d e f g h =
+      four_of_lem t size at u r v s w q 0 0 o to a b c (e ∙ cube_four t size at u r v s w q 0)
+      (f ∙ cube_four t size (at + size) u r v s w q 0) (g ∙ cube_four t size (at + size + size) u r v s w q 0)
+      d (h ∙ cube_four t size (at + size + size + size) u r v s w q 0)
 
 -- ---- by the bytes of an entry
 
@@ -237,15 +195,14 @@ module _ (t : List ℕ) (size at u r v s w q z p left : ℕ) (o : List ℕ) (to 
   pub wrote_three : 3 ≤ left → o' ≡ sets o to (channels_of t size at u r v s w q z p 3) → Wrote t size at u r v s w q z p left 3 o to o'
   wrote_three l g = record { some = omega arith; most = l; is = g }
 
-pub wrote_one : (t : List ℕ) (size at u r v s w q z p left : ℕ) (o : List ℕ) (to x a b : ℕ) → 1 ≤ left → a ≡ cube_of t size at u r v s w q → b ≡ cube_of t size (at + z) u r v s w q → x ≡ blend a b p
+pub wrote_one : (t : List ℕ) (size at u r v s w q z p left : ℕ) (o : List ℕ) (to x : ℕ) → 1 ≤ left → x ≡ four_of t size at u r v s w q z p
     → Wrote t size at u r v s w q z p left 1 o to (set o to x)
 unfolding channels_of
-wrote_one t size at u r v s w q z p left o to x a b l e f g =
-    record { some = omega arith; most = l; is = rw (← foured t size at u r x a b v s w q z p e f g) }
+wrote_one t size at u r v s w q z p left o to x l e = record { some = omega arith; most = l; is = rw (← e) }
 
 pub ruleset wrote = (wrote_four, wrote_three, wrote_one)
 
-module _ (t : List ℕ) (hop at u r v s w q z p left : ℕ) (o : List ℕ) (to : ℕ) (g : Reach t hop at u r v s w q z p left o to) where
+module _ (t : List ℕ) (hop at u v w z left : ℕ) (o : List ℕ) (to : ℕ) (g : Reach t hop at u v w z left o to) where
   left_in : (k : ℕ) → k ≤ left → at + u + v + w + z + k * (hop + 1) ≤ length t
   left_in k l = omega (arith, mul-le-mul_right (hop + 1) l, g.inside)
 
@@ -255,13 +212,10 @@ module _ (t : List ℕ) (hop at u r v s w q z p left : ℕ) (o : List ℕ) (to :
   pub three_left : 3 ≤ left → at + u + v + w + z + 3 * (hop + 1) ≤ length t
   three_left l = left_in 3 l
 
-  pub one_left : at + u + v + w + hop < length t
+  pub one_left : at + u + v + w + z + hop < length t
   one_left = omega (arith, left_in 1 g.any)
 
-  pub one_left_up : at + z + u + v + w + hop < length t
-  one_left_up = omega (arith, left_in 1 g.any)
-
-pub ruleset left-fits = (four_left, three_left, one_left, one_left_up)
+pub ruleset left-fits = (four_left, three_left, one_left)
 
 -- ---- the loop over the channels
 
@@ -297,24 +251,20 @@ module _ (t : List ℕ) (hop at u r v s w q z p outs : ℕ) (o₀ : List ℕ) (t
 
   module _ (o : List ℕ) (place ch : ℕ) (y : Painting t hop at u r v s w q z p outs o₀ to o place ch) where
     module _ (h : ch < outs) where
-      module _ (g : Reach t hop at u r v s w q z p outs o₀ to) where
+      module _ (g : Reach t hop at u v w z outs o₀ to) where
         rest_in : place + u + v + w + z + (outs - ch) * (hop + 1) ≤ length t
         rest_in =
             let n : outs ≡ outs - ch + ch = omega (arith, y.within) in
             let e : outs * (hop + 1) ≡ (outs - ch) * (hop + 1) + ch * (hop + 1) = ap (λ (m : ℕ). m * (hop + 1)) n ∙ omega arith in
             omega (arith, y.is_at, g.inside)
 
-        pub paint_reach : Reach t hop place u r v s w q z p (outs - ch) o (to + ch)
+        pub paint_reach : Reach t hop place u v w z (outs - ch) o (to + ch)
         paint_reach =
             record {
               inside = rest_in;
               room = omega (arith, y.long, y.within, g.room);
               any = omega arith;
               small = g.small;
-              rest0 = g.rest0;
-              rest1 = g.rest1;
-              rest2 = g.rest2;
-              rest3 = g.rest3;
             }
 
         pub to_fits : length o₀ < 2 ^ 64 → Fits w64 (to + ch)

@@ -5,28 +5,24 @@ use native.Mathlib.Omega.{arith}
 use native.Mathlib.Nat.{mul-le-mul, one-le-mul}
 use mathlib.Core.Path.{◌≡◌, refl, sym, ap, ◌∙◌}
 use mathlib.Core.Bool.{Bool, true, false, ◌||◌, true≢false}
-use mathlib.Core.List.{List}
-use lib.ListN.{length, get_or, drop, get_or-eq_default}
-use lib.Seq.{sets}
+use mathlib.Core.List.{List, [], ◌∷◌}
+use lib.ListN.{length, get_or, get_or-eq_default}
 use lib.Dec.{ltb, eqb}
 use mir.Syntax.{w64}
 use mir.Val.{Fits}
 use borrow.Author.Tests.{eq-eqb, ne_eqb, lt-ltb, le-ltb, ltb-false}
 use Rattle.fields.specs.Some.{some}
-use Rattle.fields.specs.declared.Refusal.TheVariants.{NoColourTable, TooFewSlots}
+use Rattle.fields.specs.declared.Refusal.TheVariants.{NoColourTable}
 use Rattle.fields.proofs.Choice.{neither_left, neither_right}
 use Rattle.lut_clut_meaning.specs.Clut.{is_flat}
 use Rattle.lut_clut_meaning.specs.Table.{product}
 use Rattle.lut_view_meaning.specs.View.{grid_from, table_by}
 use Rattle.lut_view_meaning.specs.declared.TableNumbers.{TableNumbers}
-use Rattle.evaluate_meaning.specs.Colour.{colour}
-use Rattle.evaluate_meaning.specs.Evaluate.{odd_numbers, outside, no_table, Evaluated}
-use Rattle.evaluate_meaning.specs.declared.Evaluation.{Evaluation}
-use Rattle.evaluate_meaning.proofs.Answered.{pixel_tableless, pixel_short, pixel_value}
+use Rattle.evaluate_meaning.specs.Evaluate.{odd_numbers, outside, no_table}
 use Rattle.evaluate_meaning.proofs.Grid.{solid_product, dimensions}
 use Rattle.evaluate_meaning.proofs.Odd.{Even, even}
 use Rattle.evaluate_parts.specs.Tests.{past_of}
-use Rattle.evaluate.specs.Parts.{dim_of, ShapeOf, Judged, Spot}
+use Rattle.evaluate.specs.Parts.{dim_of, ShapeOf, Judged, Tableless}
 use Rattle.evaluate.specs.declared.Shape.{Shape}
 use Rattle.evaluate.proofs.Pixels.{bytes_all}
 
@@ -112,7 +108,7 @@ module _ (b : TableNumbers) (e : odd_numbers b ≡ false) (o : b.outputs < 2 ^ 8
 
           pub shaped : (t : List ℕ) → g0 ≡ dim_of t b.grid_at.0 b.grid_step b.inputs 0 → g1 ≡ dim_of t b.grid_at.0 b.grid_step b.inputs 1
               → g2 ≡ dim_of t b.grid_at.0 b.grid_step b.inputs 2 → g3 ≡ dim_of t b.grid_at.0 b.grid_step b.inputs 3
-              → ShapeOf t b record { g0 = g0; s0 = width; g1 = g1; s1 = width * g0; g2 = g2; s2 = width * g0 * g1; g3 = g3; s3 = width * g0 * g1 * g2; bytes = width * g0 * g1 * g2 * g3; start = b.start.0; hop = b.entry_size - 1 }
+              → ShapeOf t b record { dimensions = record { points = g0; stride = width } ∷ record { points = g1; stride = width * g0 } ∷ record { points = g2; stride = width * g0 * g1 } ∷ record { points = g3; stride = width * g0 * g1 * g2 } ∷ []; bytes = width * g0 * g1 * g2 * g3; start = b.start.0; hop = b.entry_size - 1 }
           unfolding ShapeOf
           shaped t e0 e1 e2 e3 =
               record {
@@ -189,31 +185,30 @@ module _ (t : List ℕ) (b : TableNumbers) (e : odd_numbers b ≡ false) where
             shape = d;
             solid = λ n. true≢false (sym (eq-eqb h.bytes 0 n) ∙ neither_left (eqb h.bytes 0) (ltb (length t) (b.start.0 + h.bytes)) z);
             inside = ltb-false (length t) (b.start.0 + h.bytes) (neither_right (eqb h.bytes 0) (ltb (length t) (b.start.0 + h.bytes)) z);
+            there = sym test ∙ f;
           }
 
--- ---- the answers for a pixel
+-- ---- what judging answers
 
-module _ (t : List ℕ) (b : TableNumbers) (xs words : List ℕ) (x : Bool) (v : x ≡ odd_numbers b) (f : x ≡ false) where
-  fine : odd_numbers b ≡ false
-  fine = sym v ∙ f
+module _ (t : List ℕ) (b : TableNumbers) (x : Bool) (v : x ≡ odd_numbers b) where
+  pub odd_judged : x ≡ true → Tableless t b NoColourTable
+  unfolding no_table
+  odd_judged f = record { is_why = refl; none = rw (sym v ∙ f) }
 
-  pub pixel_nowhere : length t ≤ b.grid_at.0 → Evaluated t b xs words (Evaluation.Refused NoColourTable) words
-  pixel_nowhere l = pixel_tableless t b xs words (nowhere t b fine l)
+  module _ (f : x ≡ false) where
+    pub fine : odd_numbers b ≡ false
+    fine = sym v ∙ f
 
-  module _ (h : Shape) (d : ShapeOf t b h) (r : Bool) (q : r ≡ past_of h.bytes b.start.0 (length t)) where
-    pub pixel_past : r ≡ true → Evaluated t b xs words (Evaluation.Refused NoColourTable) words
-    pixel_past g = pixel_tableless t b xs words (sym (test t b fine h d r q) ∙ g)
+    pub nowhere_judged : length t ≤ b.grid_at.0 → Tableless t b NoColourTable
+    nowhere_judged l = record { is_why = refl; none = nowhere t b fine l }
 
-    module _ (g : r ≡ false) (m : length xs ≡ b.inputs) where
-      there : no_table t b ≡ false
-      there = sym (test t b fine h d r q) ∙ g
+    module _ (h : Shape) (d : ShapeOf t b h) (r : Bool) (q : r ≡ past_of h.bytes b.start.0 (length t)) where
+      pub past_judged : r ≡ true → Tableless t b NoColourTable
+      past_judged g = record { is_why = refl; none = sym (test t b fine h d r q) ∙ g }
 
-      pub pixel_no_room : length words < b.outputs → Evaluated t b xs words (Evaluation.Refused TooFewSlots) words
-      pixel_no_room = pixel_short t b xs words there m
+      pub table_judged : r ≡ false → Judged t b h
+      table_judged = judged t b fine h d r q
 
-      module _ (l : b.outputs ≤ length words) where
-        pub pixel_spot : Spot t b h xs 0 words 0
-        pixel_spot = record { judged = judged t b fine h d r q g; coords = omega arith; room = omega arith }
-
-        pub pixel_done : (after : List ℕ) → after ≡ sets words 0 (colour t (table_by t b) (drop 0 xs)) → Evaluated t b xs words (Evaluation.Value b.outputs) after
-        pixel_done = pixel_value t b xs words there m l
+pub is_there : (t : List ℕ) (b : TableNumbers) (h : Shape) → Judged t b h → no_table t b ≡ false
+unfolding Judged
+is_there t b h y = y.there

@@ -24,7 +24,7 @@ use Rattle.evaluate_meaning.proofs.Grid.{dimensions}
 use Rattle.evaluate_meaning.proofs.Odd.{Even, even}
 use Rattle.evaluate.specs.Corners.{line_of, plane_of, cube_of, four_of, channels_of, Reach}
 use Rattle.evaluate_parts.specs.Tests.{lift_of}
-use Rattle.evaluate.specs.Parts.{pick_of, Shaped, JudgedSo, Judged, AxisIn, AxisIs, AxisOf, Spot, Three}
+use Rattle.evaluate.specs.Parts.{pick_of, dimension, Shaped, JudgedSo, Judged, AxisIn, AxisIs, AxisOf, Spot, Three}
 use Rattle.evaluate.specs.declared.Axis.{Axis}
 use Rattle.evaluate.specs.declared.Shape.{Shape}
 use Rattle.evaluate.proofs.Axed.{Axed, entry_at, part, Stage, none_left, next, stride_next, no_axis}
@@ -48,18 +48,18 @@ module _ (t : List ℕ) (at step n width : ℕ) (h : Shape) (d : Shaped t at ste
   unfolding grid_from
   part_none = let e : n - (n - 0) ≡ 0 = omega arith in rw e
 
-  bytes0 : h.s0 ≡ cond (some is_flat (part t at step n 0)) 0 (product (part t at step n 0) * width)
+  bytes0 : (dimension h 0).stride ≡ cond (some is_flat (part t at step n 0)) 0 (product (part t at step n 0) * width)
   unfolding some product
-  bytes0 = rw part_none (let e : h.s0 ≡ width = d.far0 in omega arith)
+  bytes0 = rw part_none (let e : (dimension h 0).stride ≡ width = d.far0 in omega arith)
 
-  bytes1 : h.s1 ≡ cond (some is_flat (part t at step n 1)) 0 (product (part t at step n 1) * width)
-  bytes1 = d.far1 ∙ stride_next t at step n width 0 h.s0 h.g0 bytes0 d.is0
+  bytes1 : (dimension h 1).stride ≡ cond (some is_flat (part t at step n 1)) 0 (product (part t at step n 1) * width)
+  bytes1 = d.far1 ∙ stride_next t at step n width 0 (dimension h 0).stride (dimension h 0).points bytes0 d.is0
 
-  bytes2 : h.s2 ≡ cond (some is_flat (part t at step n 2)) 0 (product (part t at step n 2) * width)
-  bytes2 = d.far2 ∙ stride_next t at step n width 1 h.s1 h.g1 bytes1 d.is1
+  bytes2 : (dimension h 2).stride ≡ cond (some is_flat (part t at step n 2)) 0 (product (part t at step n 2) * width)
+  bytes2 = d.far2 ∙ stride_next t at step n width 1 (dimension h 1).stride (dimension h 1).points bytes1 d.is1
 
-  bytes3 : h.s3 ≡ cond (some is_flat (part t at step n 3)) 0 (product (part t at step n 3) * width)
-  bytes3 = d.far3 ∙ stride_next t at step n width 2 h.s2 h.g2 bytes2 d.is2
+  bytes3 : (dimension h 3).stride ≡ cond (some is_flat (part t at step n 3)) 0 (product (part t at step n 3) * width)
+  bytes3 = d.far3 ∙ stride_next t at step n width 2 (dimension h 2).stride (dimension h 2).points bytes2 d.is2
 
   module _ (f : n ≤ 4) where
     part_all : part t at step n 4 ≡ grid_from t at step n
@@ -71,54 +71,54 @@ module _ (t : List ℕ) (at step n width : ℕ) (h : Shape) (d : Shaped t at ste
 
     -- the bytes of all entries, 0 where a dimension is below 2
     pub bytes_all : h.bytes ≡ cond (some is_flat (grid_from t at step n)) 0 (product (grid_from t at step n) * width)
-    bytes_all = rw part_all at (d.all ∙ stride_next t at step n width 3 h.s3 h.g3 bytes3 d.is3)
+    bytes_all = rw part_all at (d.all ∙ stride_next t at step n width 3 (dimension h 3).stride (dimension h 3).points bytes3 d.is3)
 
     module _ (z : h.bytes ≡ 0 → ⊥) where
-      pub some3 : h.g3 ≡ 0 → ⊥
-      some3 = right_some h.s3 h.g3 h.bytes d.all z
+      pub some3 : (dimension h 3).points ≡ 0 → ⊥
+      some3 = right_some (dimension h 3).stride (dimension h 3).points h.bytes d.all z
 
-      s3_some : h.s3 ≡ 0 → ⊥
-      s3_some = left_some h.s3 h.g3 h.bytes d.all z
+      s3_some : (dimension h 3).stride ≡ 0 → ⊥
+      s3_some = left_some (dimension h 3).stride (dimension h 3).points h.bytes d.all z
 
-      pub some2 : h.g2 ≡ 0 → ⊥
-      some2 = right_some h.s2 h.g2 h.s3 d.far3 s3_some
+      pub some2 : (dimension h 2).points ≡ 0 → ⊥
+      some2 = right_some (dimension h 2).stride (dimension h 2).points (dimension h 3).stride d.far3 s3_some
 
-      s2_some : h.s2 ≡ 0 → ⊥
-      s2_some = left_some h.s2 h.g2 h.s3 d.far3 s3_some
+      s2_some : (dimension h 2).stride ≡ 0 → ⊥
+      s2_some = left_some (dimension h 2).stride (dimension h 2).points (dimension h 3).stride d.far3 s3_some
 
-      pub some1 : h.g1 ≡ 0 → ⊥
-      some1 = right_some h.s1 h.g1 h.s2 d.far2 s2_some
+      pub some1 : (dimension h 1).points ≡ 0 → ⊥
+      some1 = right_some (dimension h 1).stride (dimension h 1).points (dimension h 2).stride d.far2 s2_some
 
-      s1_some : h.s1 ≡ 0 → ⊥
-      s1_some = left_some h.s1 h.g1 h.s2 d.far2 s2_some
+      s1_some : (dimension h 1).stride ≡ 0 → ⊥
+      s1_some = left_some (dimension h 1).stride (dimension h 1).points (dimension h 2).stride d.far2 s2_some
 
-      pub some0 : h.g0 ≡ 0 → ⊥
-      some0 = right_some h.s0 h.g0 h.s1 d.far1 s1_some
+      pub some0 : (dimension h 0).points ≡ 0 → ⊥
+      some0 = right_some (dimension h 0).stride (dimension h 0).points (dimension h 1).stride d.far1 s1_some
 
-      s0_some : h.s0 ≡ 0 → ⊥
-      s0_some = left_some h.s0 h.g0 h.s1 d.far1 s1_some
+      s0_some : (dimension h 0).stride ≡ 0 → ⊥
+      s0_some = left_some (dimension h 0).stride (dimension h 0).points (dimension h 1).stride d.far1 s1_some
 
       module _ (xs : List ℕ) (q : n ≤ length xs) (x0 x1 x2 x3 o0 o1 o2 o3 u0 u1 u2 u3 r0 r1 r2 r3 : ℕ)
           (p0 : 0 < n → x0 ≡ get_or xs (n - 1 - 0) 0) (p1 : 1 < n → x1 ≡ get_or xs (n - 1 - 1) 0) (p2 : 2 < n → x2 ≡ get_or xs (n - 1 - 2) 0) (p3 : 3 < n → x3 ≡ get_or xs (n - 1 - 3) 0)
-          (w0 : AxisIs x0 h.g0 h.s0 o0 u0 r0) (w1 : AxisIs x1 h.g1 h.s1 o1 u1 r1) (w2 : AxisIs x2 h.g2 h.s2 o2 u2 r2) (w3 : AxisIs x3 h.g3 h.s3 o3 u3 r3) where
+          (w0 : AxisIs x0 (dimension h 0).points (dimension h 0).stride o0 u0 r0) (w1 : AxisIs x1 (dimension h 1).points (dimension h 1).stride o1 u1 r1) (w2 : AxisIs x2 (dimension h 2).points (dimension h 2).stride o2 u2 r2) (w3 : AxisIs x3 (dimension h 3).points (dimension h 3).stride o3 u3 r3) where
         stage0 : Stage t at step n xs width 0 0 0 (λ size pl. sample_at t pl size)
         stage0 = rw part_none (none_left t (drop (n - 0) xs) width)
 
         stage1 : Stage t at step n xs width 1 (0 + o0) (0 + u0) (λ size pl. line_of t size pl u0 r0)
         unfolding line_of
-        stage1 = next t at step n xs width 0 0 0 (λ size pl. sample_at t pl size) stage0 h.g0 x0 h.s0 o0 u0 r0 d.is0 some0 p0 q (exact (some is_flat (part t at step n 0)) h.s0 (product (part t at step n 0) * width) bytes0 s0_some) w0
+        stage1 = next t at step n xs width 0 0 0 (λ size pl. sample_at t pl size) stage0 (dimension h 0).points x0 (dimension h 0).stride o0 u0 r0 d.is0 some0 p0 q (exact (some is_flat (part t at step n 0)) (dimension h 0).stride (product (part t at step n 0) * width) bytes0 s0_some) w0
 
         stage2 : Stage t at step n xs width 2 (0 + o0 + o1) (0 + u0 + u1) (λ size pl. plane_of t size pl u0 r0 u1 r1)
         unfolding plane_of
-        stage2 = next t at step n xs width 1 (0 + o0) (0 + u0) (λ size pl. line_of t size pl u0 r0) stage1 h.g1 x1 h.s1 o1 u1 r1 d.is1 some1 p1 q (exact (some is_flat (part t at step n 1)) h.s1 (product (part t at step n 1) * width) bytes1 s1_some) w1
+        stage2 = next t at step n xs width 1 (0 + o0) (0 + u0) (λ size pl. line_of t size pl u0 r0) stage1 (dimension h 1).points x1 (dimension h 1).stride o1 u1 r1 d.is1 some1 p1 q (exact (some is_flat (part t at step n 1)) (dimension h 1).stride (product (part t at step n 1) * width) bytes1 s1_some) w1
 
         stage3 : Stage t at step n xs width 3 (0 + o0 + o1 + o2) (0 + u0 + u1 + u2) (λ size pl. cube_of t size pl u0 r0 u1 r1 u2 r2)
         unfolding cube_of
-        stage3 = next t at step n xs width 2 (0 + o0 + o1) (0 + u0 + u1) (λ size pl. plane_of t size pl u0 r0 u1 r1) stage2 h.g2 x2 h.s2 o2 u2 r2 d.is2 some2 p2 q (exact (some is_flat (part t at step n 2)) h.s2 (product (part t at step n 2) * width) bytes2 s2_some) w2
+        stage3 = next t at step n xs width 2 (0 + o0 + o1) (0 + u0 + u1) (λ size pl. plane_of t size pl u0 r0 u1 r1) stage2 (dimension h 2).points x2 (dimension h 2).stride o2 u2 r2 d.is2 some2 p2 q (exact (some is_flat (part t at step n 2)) (dimension h 2).stride (product (part t at step n 2) * width) bytes2 s2_some) w2
 
         stage4 : Stage t at step n xs width 4 (0 + o0 + o1 + o2 + o3) (0 + u0 + u1 + u2 + u3) (λ size pl. four_of t size pl u0 r0 u1 r1 u2 r2 u3 r3)
         unfolding four_of
-        stage4 = next t at step n xs width 3 (0 + o0 + o1 + o2) (0 + u0 + u1 + u2) (λ size pl. cube_of t size pl u0 r0 u1 r1 u2 r2) stage3 h.g3 x3 h.s3 o3 u3 r3 d.is3 some3 p3 q (exact (some is_flat (part t at step n 3)) h.s3 (product (part t at step n 3) * width) bytes3 s3_some) w3
+        stage4 = next t at step n xs width 3 (0 + o0 + o1 + o2) (0 + u0 + u1 + u2) (λ size pl. cube_of t size pl u0 r0 u1 r1 u2 r2) stage3 (dimension h 3).points x3 (dimension h 3).stride o3 u3 r3 d.is3 some3 p3 q (exact (some is_flat (part t at step n 3)) (dimension h 3).stride (product (part t at step n 3) * width) bytes3 s3_some) w3
 
         pub whole : Axed t (grid_from t at step n) xs width (0 + o0 + o1 + o2 + o3) (0 + u0 + u1 + u2 + u3) (λ size pl. four_of t size pl u0 r0 u1 r1 u2 r2 u3 r3)
         whole = let e : n - 4 ≡ 0 = omega arith in rw (part_all, e) at stage4
@@ -130,9 +130,9 @@ module _ (xs : List ℕ) (i n k : ℕ) where
   unfolding pick_of
   pick_none l = rw (le-ltb k n l)
 
-  pub pick_some : k < n → (x : ℕ) → x ≡ get_or xs (i + (n - 1 - k)) 0 → x < 65536 → x ≡ pick_of xs i n k
+  pub pick_some : k < n → (x : ℕ) → x ≡ get_or xs (i + (n - 1 - k)) 0 → x ≡ pick_of xs i n k
   unfolding pick_of
-  pick_some l x e m = rw (lt-ltb k n l, ← e)
+  pick_some l x e = rw (lt-ltb k n l, ← e)
 
   pick_at : k < n → pick_of xs i n k ≡ get_or (drop i xs) (n - 1 - k) 0
   unfolding pick_of
@@ -163,10 +163,6 @@ module _ (xs : List ℕ) (i n g stride : ℕ) (a : AxisIn xs i n g stride) (x : 
   found k p u e = rw (← p) record { is_off = refl; is_up = e; is_rest = refl; x16 = m }
 
 pub ruleset axis-fits = (position_fits, cell_fits, way_fits)
-
-pub rest_small : (xs : List ℕ) (i n k g stride : ℕ) (a : Axis) → AxisOf xs i n k g stride a → a.rest ≤ 65535
-unfolding AxisOf
-rest_small xs i n k g stride a w = omega (arith, w.is_rest)
 
 some_one : (g : ℕ) → (g ≡ 0 → ⊥) → 1 ≤ g
 some_one zero z = absurd (z refl)
@@ -199,17 +195,17 @@ module _ (t : List ℕ) (b : TableNumbers) (h : Shape) (xs : List ℕ) (i : ℕ)
   n_few : b.inputs ≤ 4
   n_few = numbers.few_inputs
 
-  pub axis_in0 : AxisIn xs i b.inputs h.g0 h.s0
-  axis_in0 = record { coords = y.coords; some = some_one h.g0 (some0 t b.grid_at.0 b.grid_step b.inputs (b.outputs * b.entry_size) h shaped n_few so.solid); g8 = shaped.low0; near = shaped.near0 }
+  pub axis_in0 : AxisIn xs i b.inputs (dimension h 0).points (dimension h 0).stride
+  axis_in0 = record { coords = y.coords; some = some_one (dimension h 0).points (some0 t b.grid_at.0 b.grid_step b.inputs (b.outputs * b.entry_size) h shaped n_few so.solid); g8 = shaped.low0; near = shaped.near0 }
 
-  pub axis_in1 : AxisIn xs i b.inputs h.g1 h.s1
-  axis_in1 = record { coords = y.coords; some = some_one h.g1 (some1 t b.grid_at.0 b.grid_step b.inputs (b.outputs * b.entry_size) h shaped n_few so.solid); g8 = shaped.low1; near = shaped.near1 }
+  pub axis_in1 : AxisIn xs i b.inputs (dimension h 1).points (dimension h 1).stride
+  axis_in1 = record { coords = y.coords; some = some_one (dimension h 1).points (some1 t b.grid_at.0 b.grid_step b.inputs (b.outputs * b.entry_size) h shaped n_few so.solid); g8 = shaped.low1; near = shaped.near1 }
 
-  pub axis_in2 : AxisIn xs i b.inputs h.g2 h.s2
-  axis_in2 = record { coords = y.coords; some = some_one h.g2 (some2 t b.grid_at.0 b.grid_step b.inputs (b.outputs * b.entry_size) h shaped n_few so.solid); g8 = shaped.low2; near = shaped.near2 }
+  pub axis_in2 : AxisIn xs i b.inputs (dimension h 2).points (dimension h 2).stride
+  axis_in2 = record { coords = y.coords; some = some_one (dimension h 2).points (some2 t b.grid_at.0 b.grid_step b.inputs (b.outputs * b.entry_size) h shaped n_few so.solid); g8 = shaped.low2; near = shaped.near2 }
 
-  pub axis_in3 : AxisIn xs i b.inputs h.g3 h.s3
-  axis_in3 = record { coords = y.coords; some = some_one h.g3 (some3 t b.grid_at.0 b.grid_step b.inputs (b.outputs * b.entry_size) h shaped n_few so.solid); g8 = shaped.low3; near = shaped.near3 }
+  pub axis_in3 : AxisIn xs i b.inputs (dimension h 3).points (dimension h 3).stride
+  axis_in3 = record { coords = y.coords; some = some_one (dimension h 3).points (some3 t b.grid_at.0 b.grid_step b.inputs (b.outputs * b.entry_size) h shaped n_few so.solid); g8 = shaped.low3; near = shaped.near3 }
 
   pub hop_small : h.hop ≤ 1
   hop_small = omega (arith, numbers.size_most, so.shape.is_hop)
@@ -217,8 +213,8 @@ module _ (t : List ℕ) (b : TableNumbers) (h : Shape) (xs : List ℕ) (i : ℕ)
   grid_is : grid_from t b.grid_at.0 b.grid_step b.inputs ≡ (table_by t b).grid
   grid_is = sym (dimensions t b n_few)
 
-  module _ (n : ℕ) (ins : b.inputs ≡ n) (a0 a1 a2 a3 : Axis) (w0 : AxisOf xs i n 0 h.g0 h.s0 a0) (w1 : AxisOf xs i n 1 h.g1 h.s1 a1)
-      (w2 : AxisOf xs i n 2 h.g2 h.s2 a2) (w3 : AxisOf xs i n 3 h.g3 h.s3 a3) where
+  module _ (n : ℕ) (ins : b.inputs ≡ n) (a0 a1 a2 a3 : Axis) (w0 : AxisOf xs i n 0 (dimension h 0).points (dimension h 0).stride a0) (w1 : AxisOf xs i n 1 (dimension h 1).points (dimension h 1).stride a1)
+      (w2 : AxisOf xs i n 2 (dimension h 2).points (dimension h 2).stride a2) (w3 : AxisOf xs i n 3 (dimension h 3).points (dimension h 3).stride a3) where
     picked : (k : ℕ) → k < b.inputs → pick_of xs i n k ≡ get_or (drop i xs) (b.inputs - 1 - k) 0
     picked k l = rw (← ins) (pick_at xs i b.inputs k l)
 
@@ -268,17 +264,13 @@ module _ (t : List ℕ) (b : TableNumbers) (h : Shape) (xs : List ℕ) (i : ℕ)
     place_in : length t < 2 ^ 64 → at < 2 ^ 64
     place_in l = omega (arith, inside)
 
-    reach_all : (pl : ℕ) → pl ≡ at → Reach t h.hop pl a0.up a0.rest a1.up a1.rest a2.up a2.rest a3.up a3.rest b.outputs words to
+    reach_all : (pl : ℕ) → pl ≡ at → Reach t h.hop pl a0.up a1.up a2.up a3.up b.outputs words to
     reach_all pl e =
         record {
           inside = rw e inside;
           room = y.room;
           any = numbers.output;
           small = hop_small;
-          rest0 = rest_small xs i n 0 h.g0 h.s0 a0 w0;
-          rest1 = rest_small xs i n 1 h.g1 h.s1 a1 w1;
-          rest2 = rest_small xs i n 2 h.g2 h.s2 a2 w2;
-          rest3 = rest_small xs i n 3 h.g3 h.s3 a3 w3;
         }
 
     written_all : (pl : ℕ) → pl ≡ at → (k : ℕ) → b.outputs ≡ k → (after : List ℕ) → after ≡ sets words to (channels_of t (h.hop + 1) pl a0.up a0.rest a1.up a1.rest a2.up a2.rest a3.up a3.rest k)
@@ -288,12 +280,12 @@ module _ (t : List ℕ) (b : TableNumbers) (h : Shape) (xs : List ℕ) (i : ℕ)
 -- ---- the laws of the code: any table
 
 module _ (t : List ℕ) (b : TableNumbers) (h : Shape) (xs : List ℕ) (i : ℕ) (words : List ℕ) (to : ℕ) (y : Spot t b h xs i words to) (a0 a1 a2 a3 : Axis)
-    (w0 : AxisOf xs i b.inputs 0 h.g0 h.s0 a0) (w1 : AxisOf xs i b.inputs 1 h.g1 h.s1 a1) (w2 : AxisOf xs i b.inputs 2 h.g2 h.s2 a2) (w3 : AxisOf xs i b.inputs 3 h.g3 h.s3 a3) where
+    (w0 : AxisOf xs i b.inputs 0 (dimension h 0).points (dimension h 0).stride a0) (w1 : AxisOf xs i b.inputs 1 (dimension h 1).points (dimension h 1).stride a1) (w2 : AxisOf xs i b.inputs 2 (dimension h 2).points (dimension h 2).stride a2) (w3 : AxisOf xs i b.inputs 3 (dimension h 3).points (dimension h 3).stride a3) where
   pub any_place : length t < 2 ^ 64 → h.start + a0.off + a1.off + a2.off + a3.off < 2 ^ 64
   any_place = place_in t b h xs i words to y b.inputs refl a0 a1 a2 a3 w0 w1 w2 w3
 
   module _ (pl : ℕ) (e : pl ≡ h.start + a0.off + a1.off + a2.off + a3.off) where
-    pub any_reach : Reach t h.hop pl a0.up a0.rest a1.up a1.rest a2.up a2.rest a3.up a3.rest b.outputs words to
+    pub any_reach : Reach t h.hop pl a0.up a1.up a2.up a3.up b.outputs words to
     any_reach = reach_all t b h xs i words to y b.inputs refl a0 a1 a2 a3 w0 w1 w2 w3 pl e
 
     pub any_written : (after : List ℕ) → after ≡ sets words to (channels_of t (h.hop + 1) pl a0.up a0.rest a1.up a1.rest a2.up a2.rest a3.up a3.rest b.outputs)
@@ -302,31 +294,31 @@ module _ (t : List ℕ) (b : TableNumbers) (h : Shape) (xs : List ℕ) (i : ℕ)
 
 -- ---- three outputs, and as many inputs as the code says
 
-module _ (t : List ℕ) (b : TableNumbers) (h : Shape) (xs : List ℕ) (i : ℕ) (words : List ℕ) (to n : ℕ) (y : Three t b h xs i words to n) where
-  pub three_in0 : AxisIn xs i n h.g0 h.s0
-  three_in0 = rw (← y.inputs) (axis_in0 t b h xs i words to y.spot)
+module _ (t : List ℕ) (b : TableNumbers) (h : Shape) (xs : List ℕ) (i : ℕ) (words : List ℕ) (to n : ℕ) (y : Spot t b h xs i words to) (m : Three n b.inputs b.outputs) where
+  pub three_in0 : AxisIn xs i n (dimension h 0).points (dimension h 0).stride
+  three_in0 = rw (← m.inputs_are) (axis_in0 t b h xs i words to y)
 
-  pub three_in1 : AxisIn xs i n h.g1 h.s1
-  three_in1 = rw (← y.inputs) (axis_in1 t b h xs i words to y.spot)
+  pub three_in1 : AxisIn xs i n (dimension h 1).points (dimension h 1).stride
+  three_in1 = rw (← m.inputs_are) (axis_in1 t b h xs i words to y)
 
-  pub three_in2 : AxisIn xs i n h.g2 h.s2
-  three_in2 = rw (← y.inputs) (axis_in2 t b h xs i words to y.spot)
+  pub three_in2 : AxisIn xs i n (dimension h 2).points (dimension h 2).stride
+  three_in2 = rw (← m.inputs_are) (axis_in2 t b h xs i words to y)
 
-  pub three_in3 : AxisIn xs i n h.g3 h.s3
-  three_in3 = rw (← y.inputs) (axis_in3 t b h xs i words to y.spot)
+  pub three_in3 : AxisIn xs i n (dimension h 3).points (dimension h 3).stride
+  three_in3 = rw (← m.inputs_are) (axis_in3 t b h xs i words to y)
 
   pub three_hop : h.hop ≤ 1
-  three_hop = hop_small t b h xs i words to y.spot
+  three_hop = hop_small t b h xs i words to y
 
   pub three_room : to + 3 ≤ length words
-  three_room = rw (← y.outputs) y.spot.room
+  three_room = rw (← m.outputs_are) y.room
 
-  module _ (a0 a1 a2 a3 : Axis) (w0 : AxisOf xs i n 0 h.g0 h.s0 a0) (w1 : AxisOf xs i n 1 h.g1 h.s1 a1) (w2 : AxisOf xs i n 2 h.g2 h.s2 a2) (w3 : AxisOf xs i n 3 h.g3 h.s3 a3) where
+  module _ (a0 a1 a2 a3 : Axis) (w0 : AxisOf xs i n 0 (dimension h 0).points (dimension h 0).stride a0) (w1 : AxisOf xs i n 1 (dimension h 1).points (dimension h 1).stride a1) (w2 : AxisOf xs i n 2 (dimension h 2).points (dimension h 2).stride a2) (w3 : AxisOf xs i n 3 (dimension h 3).points (dimension h 3).stride a3) where
     in_three : h.start + a0.off + a1.off + a2.off + a3.off + a0.up + a1.up + a2.up + a3.up + 3 * (h.hop + 1) ≤ length t
-    in_three = rw y.outputs at (inside t b h xs i words to y.spot n y.inputs a0 a1 a2 a3 w0 w1 w2 w3)
+    in_three = rw m.outputs_are at (inside t b h xs i words to y n m.inputs_are a0 a1 a2 a3 w0 w1 w2 w3)
 
     pub place4 : length t < 2 ^ 64 → h.start + a0.off + a1.off + a2.off + a3.off < 2 ^ 64
-    place4 = place_in t b h xs i words to y.spot n y.inputs a0 a1 a2 a3 w0 w1 w2 w3
+    place4 = place_in t b h xs i words to y n m.inputs_are a0 a1 a2 a3 w0 w1 w2 w3
 
     module _ (pl : ℕ) (e : pl ≡ h.start + a0.off + a1.off + a2.off + a3.off) where
       pub reach4 : pl + a0.up + a1.up + a2.up + a3.up + 3 * (h.hop + 1) ≤ length t
@@ -334,56 +326,56 @@ module _ (t : List ℕ) (b : TableNumbers) (h : Shape) (xs : List ℕ) (i : ℕ)
 
       pub written4 : (after : List ℕ) → after ≡ sets words to (channels_of t (h.hop + 1) pl a0.up a0.rest a1.up a1.rest a2.up a2.rest a3.up a3.rest 3)
           → after ≡ sets words to (colour t (table_by t b) (drop i xs))
-      written4 = written_all t b h xs i words to y.spot n y.inputs a0 a1 a2 a3 w0 w1 w2 w3 pl e 3 y.outputs
+      written4 = written_all t b h xs i words to y n m.inputs_are a0 a1 a2 a3 w0 w1 w2 w3 pl e 3 m.outputs_are
 
 module _ (t : List ℕ) (b : TableNumbers) (h : Shape) (xs : List ℕ) (i : ℕ) (words : List ℕ) (to : ℕ) where
-  module _ (y : Three t b h xs i words to 3) (a0 a1 a2 : Axis) (w0 : AxisOf xs i 3 0 h.g0 h.s0 a0) (w1 : AxisOf xs i 3 1 h.g1 h.s1 a1) (w2 : AxisOf xs i 3 2 h.g2 h.s2 a2) where
-    n3 : AxisOf xs i 3 3 h.g3 h.s3 none
-    n3 = none_of xs i 3 3 h.g3 h.s3 (omega arith)
+  module _ (y : Spot t b h xs i words to) (m : Three 3 b.inputs b.outputs) (a0 a1 a2 : Axis) (w0 : AxisOf xs i 3 0 (dimension h 0).points (dimension h 0).stride a0) (w1 : AxisOf xs i 3 1 (dimension h 1).points (dimension h 1).stride a1) (w2 : AxisOf xs i 3 2 (dimension h 2).points (dimension h 2).stride a2) where
+    n3 : AxisOf xs i 3 3 (dimension h 3).points (dimension h 3).stride none
+    n3 = none_of xs i 3 3 (dimension h 3).points (dimension h 3).stride (omega arith)
 
     pub place3 : length t < 2 ^ 64 → h.start + a0.off + a1.off + a2.off + 0 < 2 ^ 64
-    place3 = place4 t b h xs i words to 3 y a0 a1 a2 none w0 w1 w2 n3
+    place3 = place4 t b h xs i words to 3 y m a0 a1 a2 none w0 w1 w2 n3
 
     module _ (pl : ℕ) (e : pl ≡ h.start + a0.off + a1.off + a2.off + 0) where
       pub reach3 : pl + a0.up + a1.up + a2.up + 3 * (h.hop + 1) ≤ length t
-      reach3 = omega (arith, reach4 t b h xs i words to 3 y a0 a1 a2 none w0 w1 w2 n3 pl e)
+      reach3 = omega (arith, reach4 t b h xs i words to 3 y m a0 a1 a2 none w0 w1 w2 n3 pl e)
 
       pub written3 : (after : List ℕ) → after ≡ sets words to (channels_of t (h.hop + 1) pl a0.up a0.rest a1.up a1.rest a2.up a2.rest 0 0 3)
           → after ≡ sets words to (colour t (table_by t b) (drop i xs))
-      written3 = written4 t b h xs i words to 3 y a0 a1 a2 none w0 w1 w2 n3 pl e
+      written3 = written4 t b h xs i words to 3 y m a0 a1 a2 none w0 w1 w2 n3 pl e
 
-  module _ (y : Three t b h xs i words to 2) (a0 a1 : Axis) (w0 : AxisOf xs i 2 0 h.g0 h.s0 a0) (w1 : AxisOf xs i 2 1 h.g1 h.s1 a1) where
+  module _ (y : Spot t b h xs i words to) (m : Three 2 b.inputs b.outputs) (a0 a1 : Axis) (w0 : AxisOf xs i 2 0 (dimension h 0).points (dimension h 0).stride a0) (w1 : AxisOf xs i 2 1 (dimension h 1).points (dimension h 1).stride a1) where
     n2 : (k : ℕ) (g stride : ℕ) → 2 ≤ k → AxisOf xs i 2 k g stride none
     n2 k g stride l = none_of xs i 2 k g stride l
 
     pub place2 : length t < 2 ^ 64 → h.start + a0.off + a1.off + 0 + 0 < 2 ^ 64
-    place2 = place4 t b h xs i words to 2 y a0 a1 none none w0 w1 (n2 2 h.g2 h.s2 (omega arith)) (n2 3 h.g3 h.s3 (omega arith))
+    place2 = place4 t b h xs i words to 2 y m a0 a1 none none w0 w1 (n2 2 (dimension h 2).points (dimension h 2).stride (omega arith)) (n2 3 (dimension h 3).points (dimension h 3).stride (omega arith))
 
     module _ (pl : ℕ) (e : pl ≡ h.start + a0.off + a1.off + 0 + 0) where
       pub reach2 : pl + a0.up + a1.up + 3 * (h.hop + 1) ≤ length t
-      reach2 = omega (arith, reach4 t b h xs i words to 2 y a0 a1 none none w0 w1 (n2 2 h.g2 h.s2 (omega arith)) (n2 3 h.g3 h.s3 (omega arith)) pl e)
+      reach2 = omega (arith, reach4 t b h xs i words to 2 y m a0 a1 none none w0 w1 (n2 2 (dimension h 2).points (dimension h 2).stride (omega arith)) (n2 3 (dimension h 3).points (dimension h 3).stride (omega arith)) pl e)
 
       pub written2 : (after : List ℕ) → after ≡ sets words to (channels_of t (h.hop + 1) pl a0.up a0.rest a1.up a1.rest 0 0 0 0 3)
           → after ≡ sets words to (colour t (table_by t b) (drop i xs))
-      written2 = written4 t b h xs i words to 2 y a0 a1 none none w0 w1 (n2 2 h.g2 h.s2 (omega arith)) (n2 3 h.g3 h.s3 (omega arith)) pl e
+      written2 = written4 t b h xs i words to 2 y m a0 a1 none none w0 w1 (n2 2 (dimension h 2).points (dimension h 2).stride (omega arith)) (n2 3 (dimension h 3).points (dimension h 3).stride (omega arith)) pl e
 
-  module _ (y : Three t b h xs i words to 1) (a0 : Axis) (w0 : AxisOf xs i 1 0 h.g0 h.s0 a0) where
+  module _ (y : Spot t b h xs i words to) (m : Three 1 b.inputs b.outputs) (a0 : Axis) (w0 : AxisOf xs i 1 0 (dimension h 0).points (dimension h 0).stride a0) where
     n1 : (k : ℕ) (g stride : ℕ) → 1 ≤ k → AxisOf xs i 1 k g stride none
     n1 k g stride l = none_of xs i 1 k g stride l
 
     pub place1 : length t < 2 ^ 64 → h.start + a0.off + 0 + 0 + 0 < 2 ^ 64
-    place1 = place4 t b h xs i words to 1 y a0 none none none w0 (n1 1 h.g1 h.s1 (omega arith)) (n1 2 h.g2 h.s2 (omega arith)) (n1 3 h.g3 h.s3 (omega arith))
+    place1 = place4 t b h xs i words to 1 y m a0 none none none w0 (n1 1 (dimension h 1).points (dimension h 1).stride (omega arith)) (n1 2 (dimension h 2).points (dimension h 2).stride (omega arith)) (n1 3 (dimension h 3).points (dimension h 3).stride (omega arith))
 
     module _ (pl : ℕ) (e : pl ≡ h.start + a0.off + 0 + 0 + 0) where
       pub reach1 : pl + a0.up + 3 * (h.hop + 1) ≤ length t
-      reach1 = omega (arith, reach4 t b h xs i words to 1 y a0 none none none w0 (n1 1 h.g1 h.s1 (omega arith)) (n1 2 h.g2 h.s2 (omega arith)) (n1 3 h.g3 h.s3 (omega arith)) pl e)
+      reach1 = omega (arith, reach4 t b h xs i words to 1 y m a0 none none none w0 (n1 1 (dimension h 1).points (dimension h 1).stride (omega arith)) (n1 2 (dimension h 2).points (dimension h 2).stride (omega arith)) (n1 3 (dimension h 3).points (dimension h 3).stride (omega arith)) pl e)
 
       pub written1 : (after : List ℕ) → after ≡ sets words to (channels_of t (h.hop + 1) pl a0.up a0.rest 0 0 0 0 0 0 3)
           → after ≡ sets words to (colour t (table_by t b) (drop i xs))
-      written1 = written4 t b h xs i words to 1 y a0 none none none w0 (n1 1 h.g1 h.s1 (omega arith)) (n1 2 h.g2 h.s2 (omega arith)) (n1 3 h.g3 h.s3 (omega arith)) pl e
+      written1 = written4 t b h xs i words to 1 y m a0 none none none w0 (n1 1 (dimension h 1).points (dimension h 1).stride (omega arith)) (n1 2 (dimension h 2).points (dimension h 2).stride (omega arith)) (n1 3 (dimension h 3).points (dimension h 3).stride (omega arith)) pl e
 
 pub ruleset axis-in = (axis_in0, axis_in1, axis_in2, axis_in3)
 
 pub ruleset three_in = (three_in0, three_in1, three_in2, three_in3)
 
-pub ruleset three-asks = (three_hop, three_room, rest_small, reach1, reach2, reach3, reach4)
+pub ruleset three-asks = (three_hop, three_room, reach1, reach2, reach3, reach4)

@@ -12,22 +12,24 @@ use lib.Seq.{sets, length-sets, drop-drop}
 use mir.Syntax.{w64}
 use mir.Val.{Fits}
 use borrow.Author.Tests.{ltb-true, ltb-false}
+use Rattle.std.specs.Prelude.{Ok, Err}
+use Rattle.fields.specs.declared.Refusal.{Refusal}
 use Rattle.fields.specs.declared.Refusal.TheVariants.{NoColourTable, TooFewSlots}
 use Rattle.lut_view_meaning.specs.View.{table_by}
 use Rattle.lut_view_meaning.specs.declared.TableNumbers.{TableNumbers}
 use Rattle.evaluate_meaning.specs.Colour.{cell_of, colour_of, corner_of, colours_from, colour}
-use Rattle.evaluate_meaning.specs.Evaluate.{odd_numbers, no_table, colours_of, RowEvaluated}
-use Rattle.evaluate_meaning.specs.declared.Evaluation.{Evaluation}
-use Rattle.evaluate_meaning.proofs.Answered.{row_uneven, row_tableless, row_short, row_value}
+use Rattle.evaluate_meaning.specs.Evaluate.{no_table, colours_of, Evaluated, RowEvaluated}
+use Rattle.evaluate_meaning.proofs.Answered.{pixel_tableless, pixel_short, pixel_value, row_uneven, row_tableless, row_short, row_value}
 use Rattle.evaluate_meaning.proofs.Bounds.{length_colours}
 use Rattle.evaluate_meaning.proofs.Grid.{as_many}
-use Rattle.evaluate_meaning.proofs.Odd.{even}
-use Rattle.evaluate_parts.specs.Tests.{past_of, count_of}
+use Rattle.evaluate_meaning.proofs.Odd.{Even, even}
+use Rattle.evaluate_parts.specs.Tests.{count_of}
 use Rattle.evaluate_parts.proofs.Laws.{count_is, count_fits, none_left, some_left}
-use Rattle.evaluate.specs.Parts.{ShapeOf, Spot, Three, Row, ThreeRow}
+use Rattle.evaluate.specs.Parts.{Judged, Tableless, Spot, Row}
 use Rattle.evaluate.specs.declared.Shape.{Shape}
 use Rattle.evaluate.proofs.Channels.{sets_append}
-use Rattle.evaluate.proofs.Judging.{nowhere, test, judged}
+use Rattle.evaluate.proofs.Judging.{is_there}
+use borrow.Author.Rules.{rules}
 use Rattle.evaluate.proofs.Pixels.{is_even}
 
 -- ---- coordinates behind a pixel's own change nothing
@@ -49,54 +51,49 @@ module _ (t : List ℕ) (b : TableNumbers) (e : b.inputs ≤ 4) (xs : List ℕ) 
 
 -- ---- the loop
 
-pub record Rowing (t : List ℕ) (b : TableNumbers) (xs : List ℕ) (count : ℕ) (words₀ : List ℕ) (n outs : ℕ) (words : List ℕ) (i o k : ℕ) : Type 0 where
-  pub is_n : n ≡ b.inputs
-  pub is_outs : outs ≡ b.outputs
-  pub within : k ≤ count
+pub record Rowing (t : List ℕ) (b : TableNumbers) (xs : List ℕ) (count : ℕ) (words₀ words : List ℕ) (k : ℕ) : Type 0 where
   pub long : length words ≡ length words₀
-  pub is_i : i ≡ k * n
-  pub is_o : o ≡ k * outs
-  pub left : sets words o (colours_of t b (drop i xs) (count - k)) ≡ sets words₀ 0 (colours_of t b xs count)
+  pub left : sets words (k * b.outputs) (colours_of t b (drop (k * b.inputs) xs) (count - k)) ≡ sets words₀ 0 (colours_of t b xs count)
 
 module _ (t : List ℕ) (b : TableNumbers) (h : Shape) (xs : List ℕ) (count : ℕ) (words₀ : List ℕ) (y : Row t b h xs count words₀) where
-  pub row_begins : Rowing t b xs count words₀ b.inputs b.outputs words₀ 0 0 0
-  row_begins = record { is_n = refl; is_outs = refl; within = omega arith; long = refl; is_i = omega arith; is_o = omega arith; left = rw sub-zero }
+  pub row_begins : Rowing t b xs count words₀ words₀ 0
+  row_begins =
+      let i : 0 * b.inputs ≡ 0 = omega arith in
+      let o : 0 * b.outputs ≡ 0 = omega arith in
+      record { long = refl; left = rw (sub-zero, i, o) }
 
-  module _ (n outs : ℕ) (words : List ℕ) (i o k : ℕ) (w : Rowing t b xs count words₀ n outs words i o k) where
+  module _ (words : List ℕ) (k : ℕ) (w : Rowing t b xs count words₀ words k) where
     module _ (l : k < count) where
-      coords_in : i + b.inputs ≤ length xs
-      coords_in = let a : k + 1 ≤ count = omega arith in omega (arith, mul-le-mul_right b.inputs a, rw w.is_n at w.is_i, y.coords)
+      coords_in : k * b.inputs + b.inputs ≤ length xs
+      coords_in = let a : k + 1 ≤ count = omega arith in omega (arith, mul-le-mul_right b.inputs a, y.coords)
 
-      room_in : o + b.outputs ≤ length words
-      room_in = let a : k + 1 ≤ count = omega arith in omega (arith, mul-le-mul_right b.outputs a, rw w.is_outs at w.is_o, y.room, w.long)
+      room_in : k * b.outputs + b.outputs ≤ length words
+      room_in = let a : k + 1 ≤ count = omega arith in omega (arith, mul-le-mul_right b.outputs a, y.room, w.long)
 
-      pub row_spot : Spot t b h xs i words o
+      pub row_spot : Spot t b h xs (k * b.inputs) words (k * b.outputs)
       row_spot = record { judged = y.judged; coords = coords_in; room = room_in }
 
-      pub i_fits : length xs < 2 ^ 64 → Fits w64 (i + n)
-      i_fits m = record { fits = omega (arith, coords_in, w.is_n) }
+      pub i_fits : length xs < 2 ^ 64 → Fits w64 (k * b.inputs)
+      i_fits m = record { fits = omega (arith, coords_in) }
 
-      pub o_fits : length words₀ < 2 ^ 64 → Fits w64 (o + outs)
-      o_fits m = record { fits = omega (arith, room_in, w.is_outs, w.long) }
+      pub o_fits : length words₀ < 2 ^ 64 → Fits w64 (k * b.outputs)
+      o_fits m = record { fits = omega (arith, room_in, w.long) }
 
-      pub row_turns : (after : List ℕ) → after ≡ sets words o (colour t (table_by t b) (drop i xs)) → Rowing t b xs count words₀ n outs after (i + n) (o + outs) (k + 1)
+      pub row_turns : (after : List ℕ) → after ≡ sets words (k * b.outputs) (colour t (table_by t b) (drop (k * b.inputs) xs)) → Rowing t b xs count words₀ after (k + 1)
       unfolding colours_of
       row_turns after e =
+          let i : ℕ = k * b.inputs in
+          let o : ℕ = k * b.outputs in
           let c : count - k ≡ suc (count - (k + 1)) = omega arith in
           let vs : List ℕ = colour t (table_by t b) (drop i xs) in
           let rest : List ℕ = colours_of t b (drop (i + b.inputs) xs) (count - (k + 1)) in
-          let j : i + n ≡ i + b.inputs = omega (arith, w.is_n) in
+          let j : (k + 1) * b.inputs ≡ i + b.inputs = omega arith in
           let m : length vs ≡ b.outputs = length_colours t (table_by t b) (drop i xs) 0 b.outputs in
-          let a : o + outs ≡ o + length vs = omega (arith, w.is_outs, m) in
+          let a : (k + 1) * b.outputs ≡ o + length vs = omega (arith, m) in
           let f : sets words o (colour t (table_by t b) (take b.inputs (drop i xs)) ++ colours_of t b (drop b.inputs (drop i xs)) (count - (k + 1))) ≡ sets words₀ 0 (colours_of t b xs count) = rw c at w.left in
           let g : sets words o (vs ++ rest) ≡ sets words₀ 0 (colours_of t b xs count) = rw (colours_take t b (even b (is_even t b h y.judged)).few_inputs (drop i xs) 0 b.outputs, drop-drop b.inputs i xs) at f in
           record {
-            is_n = w.is_n;
-            is_outs = w.is_outs;
-            within = omega arith;
             long = ap length e ∙ length-sets words o vs ∙ w.long;
-            is_i = omega (arith, w.is_i);
-            is_o = omega (arith, w.is_o);
             left = rw (a, j, e) (sym (sets_append vs rest words o) ∙ g);
           }
 
@@ -104,74 +101,71 @@ module _ (t : List ℕ) (b : TableNumbers) (h : Shape) (xs : List ℕ) (count : 
     unfolding colours_of
     row_ends l = let z : count - k ≡ 0 = omega arith in rw z at w.left
 
--- the same for a form of three outputs
+-- ---- the answers for a pixel, a row of one
 
-module _ (t : List ℕ) (b : TableNumbers) (h : Shape) (xs : List ℕ) (count : ℕ) (words₀ : List ℕ) (m : ℕ) (y : ThreeRow t b h xs count words₀ m) where
-  pub three_begins : Rowing t b xs count words₀ b.inputs b.outputs words₀ 0 0 0
-  three_begins = row_begins t b h xs count words₀ y.row
+row_of_one : (t : List ℕ) (b : TableNumbers) → b.inputs ≤ 4 → (xs : List ℕ) → colours_of t b xs 1 ≡ colour t (table_by t b) xs
+unfolding colours_of
+row_of_one t b e xs = rw (colours_take t b e xs 0 b.outputs) (search rules)
 
-  module _ (n outs : ℕ) (words : List ℕ) (i o k : ℕ) (w : Rowing t b xs count words₀ n outs words i o k) where
-    module _ (l : k < count) where
-      pub three_spot : Three t b h xs i words o m
-      three_spot = record { spot = row_spot t b h xs count words₀ y.row n outs words i o k w l; inputs = y.inputs; outputs = y.outputs }
+module _ (t : List ℕ) (b : TableNumbers) (xs words : List ℕ) where
+  pub pixel_refused : (why : Refusal) → Tableless t b why → Evaluated t b xs words (Err why) words
+  pixel_refused why k = rw k.is_why (pixel_tableless t b xs words k.none)
 
-      pub three_i_fits : length xs < 2 ^ 64 → Fits w64 (i + n)
-      three_i_fits = i_fits t b h xs count words₀ y.row n outs words i o k w l
+  module _ (h : Shape) (table : Judged t b h) (m : length xs ≡ b.inputs) where
+    pub pixel_no_room : length words < b.outputs → Evaluated t b xs words (Err TooFewSlots) words
+    pixel_no_room = pixel_short t b xs words (is_there t b h table) m
 
-      pub three_o_fits : length words₀ < 2 ^ 64 → Fits w64 (o + outs)
-      three_o_fits = o_fits t b h xs count words₀ y.row n outs words i o k w l
+    module _ (l : b.outputs ≤ length words) where
+      pub pixel_ready : Row t b h xs 1 words
+      pixel_ready = record { judged = table; coords = omega arith; room = omega arith }
 
-      pub three_turns : (after : List ℕ) → after ≡ sets words o (colour t (table_by t b) (drop i xs)) → Rowing t b xs count words₀ n outs after (i + n) (o + outs) (k + 1)
-      three_turns = row_turns t b h xs count words₀ y.row n outs words i o k w l
-
-    pub three_ends : count ≤ k → words ≡ sets words₀ 0 (colours_of t b xs count)
-    three_ends = row_ends t b h xs count words₀ y.row n outs words i o k w
+      pub pixel_done : (after : List ℕ) → after ≡ sets words 0 (colours_of t b xs 1) → Evaluated t b xs words (Ok b.outputs) after
+      pixel_done after e =
+          let f : colours_of t b xs 1 ≡ colour t (table_by t b) xs = row_of_one t b (even b (is_even t b h table)).few_inputs xs in
+          pixel_value t b xs words (is_there t b h table) m l after (rw f at e)
 
 -- ---- the answers for a row
 
-module _ (t : List ℕ) (b : TableNumbers) (xs words : List ℕ) (x : Bool) (v : x ≡ odd_numbers b) (f : x ≡ false) (count : ℕ) (c : count ≡ count_of (length xs) b.inputs) where
-  fine : odd_numbers b ≡ false
-  fine = sym v ∙ f
+module _ (t : List ℕ) (b : TableNumbers) (xs words : List ℕ) where
+  pub row_refused : (why : Refusal) → Tableless t b why → RowEvaluated t b xs words (Err why) words
+  row_refused why k = rw k.is_why (row_tableless t b xs words k.none)
 
-  pub pixels_fit : length xs < 2 ^ 64 → Fits w64 (count * b.inputs)
-  pixels_fit = count_fits (length xs) b.inputs (even b fine).input (even b fine).few_inputs count c
+  module _ (h : Shape) (table : Judged t b h) (count : ℕ) (c : count ≡ count_of (length xs) b.inputs) where
+    there : no_table t b ≡ false
+    there = is_there t b h table
 
-  pub row_parted : (count * b.inputs ≡ length xs → ⊥) → RowEvaluated t b xs words (Evaluation.Refused NoColourTable) words
-  row_parted z = row_uneven t b xs words (some_left (length xs) b.inputs (even b fine).input (even b fine).few_inputs count c z)
+    numbers : Even b
+    numbers = even b (is_even t b h table)
 
-  pub row_nowhere : length t ≤ b.grid_at.0 → RowEvaluated t b xs words (Evaluation.Refused NoColourTable) words
-  row_nowhere l = row_tableless t b xs words (nowhere t b fine l)
+    pub pixels_fit : length xs < 2 ^ 64 → Fits w64 (count * b.inputs)
+    pixels_fit = count_fits (length xs) b.inputs numbers.input numbers.few_inputs count c
 
-  module _ (h : Shape) (d : ShapeOf t b h) (r : Bool) (q : r ≡ past_of h.bytes b.start.0 (length t)) where
-    pub row_past : r ≡ true → RowEvaluated t b xs words (Evaluation.Refused NoColourTable) words
-    row_past g = row_tableless t b xs words (sym (test t b fine h d r q) ∙ g)
+    pub row_parted : (count * b.inputs ≡ length xs → ⊥) → RowEvaluated t b xs words (Err NoColourTable) words
+    row_parted z = row_uneven t b xs words (some_left (length xs) b.inputs numbers.input numbers.few_inputs count c z)
 
-    module _ (g : r ≡ false) (m : count * b.inputs ≡ length xs) (z : Bool) (y : z ≡ ltb (length words) (count * b.outputs)) where
-      there : no_table t b ≡ false
-      there = sym (test t b fine h d r q) ∙ g
-
+    module _ (m : count * b.inputs ≡ length xs) (z : Bool) (y : z ≡ ltb (length words) (count * b.outputs)) where
       pixels : count ≡ length xs / b.inputs
-      pixels = count_is (length xs) b.inputs (even b fine).input (even b fine).few_inputs count c
+      pixels = count_is (length xs) b.inputs numbers.input numbers.few_inputs count c
 
       parted : length xs % b.inputs ≡ 0
-      parted = none_left (length xs) b.inputs (even b fine).input (even b fine).few_inputs count c m
+      parted = none_left (length xs) b.inputs numbers.input numbers.few_inputs count c m
 
-      pub row_no_room : z ≡ true → RowEvaluated t b xs words (Evaluation.Refused TooFewSlots) words
-      row_no_room e =
-          let l : length words < count * b.outputs = ltb-true (length words) (count * b.outputs) (sym y ∙ e) in
+      pub row_no_room : z ≡ true → RowEvaluated t b xs words (Err TooFewSlots) words
+      row_no_room f =
+          let l : length words < count * b.outputs = ltb-true (length words) (count * b.outputs) (sym y ∙ f) in
           row_short t b xs words there parted (rw pixels at l)
 
-      module _ (e : z ≡ false) where
+      module _ (f : z ≡ false) where
         room : count * b.outputs ≤ length words
-        room = ltb-false (length words) (count * b.outputs) (sym y ∙ e)
+        room = ltb-false (length words) (count * b.outputs) (sym y ∙ f)
 
         pub row_ready : Row t b h xs count words
-        row_ready = record { judged = judged t b fine h d r q g; coords = sym m; room = room }
+        row_ready = record { judged = table; coords = sym m; room = room }
 
         pub total_fits : length words < 2 ^ 64 → Fits w64 (count * b.outputs)
         total_fits s = record { fits = omega (arith, room) }
 
-        pub row_done : (after : List ℕ) → after ≡ sets words 0 (colours_of t b xs count) → RowEvaluated t b xs words (Evaluation.Value (count * b.outputs)) after
+        pub row_done : (after : List ℕ) → after ≡ sets words 0 (colours_of t b xs count) → RowEvaluated t b xs words (Ok (count * b.outputs)) after
         row_done after p =
             let l : length xs / b.inputs * b.outputs ≤ length words = rw pixels at room in
             rw pixels (row_value t b xs words there parted l after (rw pixels at p))

@@ -23,15 +23,11 @@ channels_of t size at u r v s w q z p zero = []
 channels_of t size at u r v s w q z p (suc k) = four_of t size at u r v s w q z p ∷ channels_of t size (at + size) u r v s w q z p k
 
 -- k channels, one at least: all their corners lie in the tag, and there is room for them from `to` on
-pub record Reach (t : List ℕ) (hop at u r v s w q z p k : ℕ) (words : List ℕ) (to : ℕ) : Type 0 where
+pub record Reach (t : List ℕ) (hop at u v w z k : ℕ) (words : List ℕ) (to : ℕ) : Type 0 where
   pub inside : at + u + v + w + z + k * (hop + 1) ≤ length t
   pub room : to + k ≤ length words
   pub any : 1 ≤ k
   pub small : hop ≤ 1
-  pub rest0 : r ≤ 65535
-  pub rest1 : s ≤ 65535
-  pub rest2 : q ≤ 65535
-  pub rest3 : p ≤ 65535
 
 -- n of the channels that are left were written from `to` on
 pub record Wrote (t : List ℕ) (size at u r v s w q z p left n : ℕ) (before : List ℕ) (to : ℕ) (after : List ℕ) : Type 0 where

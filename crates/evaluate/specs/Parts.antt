@@ -1,9 +1,12 @@
 -- What the parts of the evaluator say of a table and of a pixel.
-use Rattle.std.specs.Prelude.{ℕ, ◌+◌, ◌-◌, ◌*◌, ◌/◌, ◌%◌, ◌^◌, ◌<◌, ◌≤◌, ◌≡◌, false, cond, List, length, get_or, ltb}
+use Rattle.std.specs.Prelude.{ℕ, ◌+◌, ◌-◌, ◌*◌, ◌/◌, ◌%◌, ◌^◌, ◌<◌, ◌≤◌, ◌≡◌, true, false, cond, Result, Ok, Err, List, length, get_or, ltb}
+use Rattle.fields.specs.declared.Refusal.{Refusal}
+use Rattle.fields.specs.declared.Refusal.TheVariants.{NoColourTable}
 use Rattle.lut_view_meaning.specs.declared.TableNumbers.{TableNumbers}
-use Rattle.evaluate_meaning.specs.Evaluate.{odd_numbers}
+use Rattle.evaluate_meaning.specs.Evaluate.{odd_numbers, no_table}
 use Rattle.evaluate_parts.specs.Tests.{lift_of}
 use Rattle.evaluate.specs.declared.Axis.{Axis}
+use Rattle.evaluate.specs.declared.Dimension.{Dimension}
 use Rattle.evaluate.specs.declared.Shape.{Shape}
 
 -- ---- a table
@@ -13,25 +16,29 @@ unfoldable pub dim_of : List ℕ → ℕ → ℕ → ℕ → ℕ → ℕ
 dim_of t at step n k =
     cond (ltb k n) (cond (ltb (get_or t (at + (n - 1 - k) * step) 0) 2) 0 (get_or t (at + (n - 1 - k) * step) 0)) 1
 
+-- dimension k of a table, the last one being 0
+abbrev pub dimension : Shape → ℕ → Dimension
+dimension h k = get_or h.dimensions k record { points = 0; stride = 0 }
+
 -- the dimensions, the last one first, and the bytes from point to point in each; 0 bytes in all where a dimension is below 2
 pub record Shaped (t : List ℕ) (at step n width : ℕ) (h : Shape) : Type 0 where
-  pub is0 : h.g0 ≡ dim_of t at step n 0
-  pub is1 : h.g1 ≡ dim_of t at step n 1
-  pub is2 : h.g2 ≡ dim_of t at step n 2
-  pub is3 : h.g3 ≡ dim_of t at step n 3
-  pub low0 : h.g0 < 256
-  pub low1 : h.g1 < 256
-  pub low2 : h.g2 < 256
-  pub low3 : h.g3 < 256
-  pub far0 : h.s0 ≡ width
-  pub far1 : h.s1 ≡ h.s0 * h.g0
-  pub far2 : h.s2 ≡ h.s1 * h.g1
-  pub far3 : h.s3 ≡ h.s2 * h.g2
-  pub all : h.bytes ≡ h.s3 * h.g3
-  pub near0 : h.s0 ≤ 2 ^ 33
-  pub near1 : h.s1 ≤ 2 ^ 33
-  pub near2 : h.s2 ≤ 2 ^ 33
-  pub near3 : h.s3 ≤ 2 ^ 33
+  pub is0 : (dimension h 0).points ≡ dim_of t at step n 0
+  pub is1 : (dimension h 1).points ≡ dim_of t at step n 1
+  pub is2 : (dimension h 2).points ≡ dim_of t at step n 2
+  pub is3 : (dimension h 3).points ≡ dim_of t at step n 3
+  pub low0 : (dimension h 0).points < 256
+  pub low1 : (dimension h 1).points < 256
+  pub low2 : (dimension h 2).points < 256
+  pub low3 : (dimension h 3).points < 256
+  pub far0 : (dimension h 0).stride ≡ width
+  pub far1 : (dimension h 1).stride ≡ (dimension h 0).stride * (dimension h 0).points
+  pub far2 : (dimension h 2).stride ≡ (dimension h 1).stride * (dimension h 1).points
+  pub far3 : (dimension h 3).stride ≡ (dimension h 2).stride * (dimension h 2).points
+  pub all : h.bytes ≡ (dimension h 3).stride * (dimension h 3).points
+  pub near0 : (dimension h 0).stride ≤ 2 ^ 33
+  pub near1 : (dimension h 1).stride ≤ 2 ^ 33
+  pub near2 : (dimension h 2).stride ≤ 2 ^ 33
+  pub near3 : (dimension h 3).stride ≤ 2 ^ 33
 
 -- the shape of the table that numbers tell of
 pub record ShapeIs (t : List ℕ) (b : TableNumbers) (h : Shape) : Type 0 where
@@ -48,9 +55,20 @@ pub record JudgedSo (t : List ℕ) (b : TableNumbers) (h : Shape) : Type 0 where
   pub shape : ShapeIs t b h
   pub solid : h.bytes ≡ 0 → ⊥
   pub inside : b.start.0 + h.bytes ≤ length t
+  pub there : no_table t b ≡ false
 
 unfoldable pub Judged : List ℕ → TableNumbers → Shape → Type 0
 Judged t b h = JudgedSo t b h
+
+-- the refusal of numbers that name no table
+pub record Tableless (t : List ℕ) (b : TableNumbers) (why : Refusal) : Type 0 where
+  pub is_why : why ≡ NoColourTable
+  pub none : no_table t b ≡ true
+
+-- what judging answers
+abbrev pub JudgedAs : List ℕ → TableNumbers → Result Shape Refusal → Type 0
+JudgedAs t b (Ok h) = Judged t b h
+JudgedAs t b (Err why) = Tableless t b why
 
 -- ---- a pixel
 
@@ -80,11 +98,13 @@ pub record Spot (t : List ℕ) (b : TableNumbers) (h : Shape) (xs : List ℕ) (i
   pub coords : i + b.inputs ≤ length xs
   pub room : to + b.outputs ≤ length words
 
--- so many inputs, and three outputs
-pub record Three (t : List ℕ) (b : TableNumbers) (h : Shape) (xs : List ℕ) (i : ℕ) (words : List ℕ) (to n : ℕ) : Type 0 where
-  pub spot : Spot t b h xs i words to
-  pub inputs : b.inputs ≡ n
-  pub outputs : b.outputs ≡ 3
+-- so many inputs and three outputs, or any numbers of both
+pub record Three (n inputs outputs : ℕ) : Type 0 where
+  pub inputs_are : inputs ≡ n
+  pub outputs_are : outputs ≡ 3
+
+abbrev pub Any : ℕ → ℕ → Type 0
+Any inputs outputs = Unit {0}
 
 -- ---- a row
 
@@ -92,8 +112,3 @@ pub record Row (t : List ℕ) (b : TableNumbers) (h : Shape) (xs : List ℕ) (co
   pub judged : Judged t b h
   pub coords : length xs ≡ count * b.inputs
   pub room : count * b.outputs ≤ length words
-
-pub record ThreeRow (t : List ℕ) (b : TableNumbers) (h : Shape) (xs : List ℕ) (count : ℕ) (words : List ℕ) (n : ℕ) : Type 0 where
-  pub row : Row t b h xs count words
-  pub inputs : b.inputs ≡ n
-  pub outputs : b.outputs ≡ 3

@@ -4,29 +4,28 @@
 
 mod corners;
 
-ghost use Rattle.std.specs.Prelude.{◌≡◌, false, ◌+◌, ◌≤◌, ◌<◌, ◌^◌, length, drop};
+ghost use Rattle.std.specs.Prelude.{◌≡◌, false, ℕ, ◌+◌, ◌≤◌, ◌<◌, ◌^◌, length, drop};
 ghost use Rattle.std.proofs.lemmas.List.Edits.{sets};
 ghost use Rattle.lut_view_meaning.specs.View.{table_by};
 ghost use Rattle.evaluate_meaning.specs.Colour.{colour};
 ghost use Rattle.evaluate_meaning.specs.Evaluate.{odd_numbers, colours_of, Evaluated, RowEvaluated};
-ghost use Rattle.evaluate.specs.Parts.{dim_of, pick_of, ShapeOf, AxisIn, AxisOf, Spot, Three, Row, ThreeRow};
+ghost use Rattle.evaluate.specs.Parts.{dim_of, pick_of, ShapeOf, JudgedAs, AxisIn, AxisOf, Spot, Three, Any, Row};
 
-pub use evaluate_meaning::Evaluation;
 use fields::Refusal;
 pub use lut_view_meaning::TableNumbers;
 
-// A table that is judged: the points of each dimension, the last one first, 1 where there is none, with the bytes from one to the next; the bytes of
-// all entries, 0 where a dimension is below 2; where the entries start; and the bytes of one less 1.
+// A dimension of a table: its points, 0 where the tag has less than two, and the bytes from one to the next.
+#[derive(Clone, Copy)]
+struct Dimension {
+    points: u32,
+    stride: usize,
+}
+
+// A table that is judged: its dimensions, the last one first, one of a single point where there is none; the bytes of all entries, 0 where a dimension is
+// below 2; where the entries start; and the bytes of one less 1.
 #[derive(Clone, Copy)]
 struct Shape {
-    g0: u32,
-    s0: usize,
-    g1: u32,
-    s1: usize,
-    g2: u32,
-    s2: usize,
-    g3: u32,
-    s3: usize,
+    dimensions: [Dimension; 4],
     bytes: usize,
     start: usize,
     hop: usize,
@@ -37,32 +36,32 @@ struct Shape {
 struct Axis {
     off: usize,
     up: usize,
-    rest: u32,
+    rest: u16,
 }
 
 // Coordinate `k` of the `n` of the pixel at `i`, the last one being 0; 0 where there is none.
-fn pick(xs: &[u16], i: usize, n: usize, k: usize) -> u32
+fn pick(xs: &[u16], i: usize, n: usize, k: usize) -> u16
     requires { i + n ≤ length xs.now }
-    ensures { (result ≡ pick_of xs.now i n k) × (result < 65536) }
+    ensures { result ≡ pick_of xs.now i n k }
 {
     if n <= k {
         return 0;
     }
-    evaluate_parts::wide16(xs[i + (n - 1 - k)])
+    xs[i + (n - 1 - k)]
 }
 
-// The same in its dimension of `g` points.
-fn along(xs: &[u16], i: usize, n: usize, k: usize, g: u32, stride: usize) -> Axis
-    requires { AxisIn xs.now i n g stride }
-    ensures { AxisOf xs.now i n k g stride result }
+// The same in its dimension.
+fn along(xs: &[u16], i: usize, n: usize, k: usize, d: Dimension) -> Axis
+    requires { AxisIn xs.now i n d.points d.stride }
+    ensures { AxisOf xs.now i n k d.points d.stride result }
 {
-    let position = pick(xs, i, n, k) * (g - 1);
+    let position = pick(xs, i, n, k) as u32 * (d.points - 1);
     let cell = position / 65535;
     let rest = position % 65535;
     Axis {
-        off: cell as usize * stride,
-        up: evaluate_parts::lift(rest, stride),
-        rest,
+        off: cell as usize * d.stride,
+        up: evaluate_parts::lift(rest, d.stride),
+        rest: rest as u16,
     }
 }
 
@@ -73,217 +72,165 @@ fn place(start: usize, o0: usize, o1: usize, o2: usize, o3: usize) -> usize
     start + o0 + o1 + o2 + o3
 }
 
-// The colour of a pixel with one input, and with three outputs; then with two inputs, with three and with four.
-fn pixel_1(tag: &[u8], b: TableNumbers, h: Shape, xs: &[u16], i: usize, out: &mut [u16], to: usize)
-    requires { Three tag.now b h xs.now i out.old to 1 }
-    ensures { out.new ≡ sets out.old to (colour tag.now (table_by tag.now b) (drop i xs.now)) }
-{
-    let x0 = along(xs, i, 1, 0, h.g0, h.s0);
-    let at = place(h.start, x0.off, 0, 0, 0);
-    corners::three_lines(tag, h.hop, at, x0.up, x0.rest, out, to);
+// A form of the code for the tables of some numbers of inputs and outputs: the colour of the pixel whose coordinates stand from `i` on, written from
+// `to` on.
+trait Form {
+    ghost suits: { ℕ → ℕ → Type 0 };
+
+    fn paint(
+        tag: &[u8],
+        b: TableNumbers,
+        h: Shape,
+        xs: &[u16],
+        i: usize,
+        out: &mut [u16],
+        to: usize,
+    )
+        requires { (Spot tag.now b h xs.now i out.old to) × suits b.inputs b.outputs }
+        ensures { out.new ≡ sets out.old to (colour tag.now (table_by tag.now b) (drop i xs.now)) };
 }
 
-fn pixel_2(tag: &[u8], b: TableNumbers, h: Shape, xs: &[u16], i: usize, out: &mut [u16], to: usize)
-    requires { Three tag.now b h xs.now i out.old to 2 }
-    ensures { out.new ≡ sets out.old to (colour tag.now (table_by tag.now b) (drop i xs.now)) }
-{
-    let x0 = along(xs, i, 2, 0, h.g0, h.s0);
-    let x1 = along(xs, i, 2, 1, h.g1, h.s1);
-    let at = place(h.start, x0.off, x1.off, 0, 0);
-    corners::three_planes(tag, h.hop, at, x0.up, x0.rest, x1.up, x1.rest, out, to);
+// Three outputs with one input, with two, with three and with four; and any table.
+struct Lines;
+
+struct Planes;
+
+struct Cubes;
+
+struct Fours;
+
+struct Tables;
+
+impl Form for Lines {
+    ghost suits = { Three 1 };
+
+    fn paint(
+        tag: &[u8],
+        b: TableNumbers,
+        h: Shape,
+        xs: &[u16],
+        i: usize,
+        out: &mut [u16],
+        to: usize,
+    ) {
+        let x0 = along(xs, i, 1, 0, h.dimensions[0]);
+        let at = place(h.start, x0.off, 0, 0, 0);
+        corners::three_lines(tag, h.hop, at, x0, out, to);
+    }
 }
 
-fn pixel_3(tag: &[u8], b: TableNumbers, h: Shape, xs: &[u16], i: usize, out: &mut [u16], to: usize)
-    requires { Three tag.now b h xs.now i out.old to 3 }
-    ensures { out.new ≡ sets out.old to (colour tag.now (table_by tag.now b) (drop i xs.now)) }
-{
-    let x0 = along(xs, i, 3, 0, h.g0, h.s0);
-    let x1 = along(xs, i, 3, 1, h.g1, h.s1);
-    let x2 = along(xs, i, 3, 2, h.g2, h.s2);
-    let at = place(h.start, x0.off, x1.off, x2.off, 0);
-    corners::three_cubes(
-        tag, h.hop, at, x0.up, x0.rest, x1.up, x1.rest, x2.up, x2.rest, out, to,
-    );
+impl Form for Planes {
+    ghost suits = { Three 2 };
+
+    fn paint(
+        tag: &[u8],
+        b: TableNumbers,
+        h: Shape,
+        xs: &[u16],
+        i: usize,
+        out: &mut [u16],
+        to: usize,
+    ) {
+        let x0 = along(xs, i, 2, 0, h.dimensions[0]);
+        let x1 = along(xs, i, 2, 1, h.dimensions[1]);
+        let at = place(h.start, x0.off, x1.off, 0, 0);
+        corners::three_planes(tag, h.hop, at, x0, x1, out, to);
+    }
 }
 
-fn pixel_4(tag: &[u8], b: TableNumbers, h: Shape, xs: &[u16], i: usize, out: &mut [u16], to: usize)
-    requires { Three tag.now b h xs.now i out.old to 4 }
-    ensures { out.new ≡ sets out.old to (colour tag.now (table_by tag.now b) (drop i xs.now)) }
-{
-    let x0 = along(xs, i, 4, 0, h.g0, h.s0);
-    let x1 = along(xs, i, 4, 1, h.g1, h.s1);
-    let x2 = along(xs, i, 4, 2, h.g2, h.s2);
-    let x3 = along(xs, i, 4, 3, h.g3, h.s3);
-    let at = place(h.start, x0.off, x1.off, x2.off, x3.off);
-    corners::three_fours(
-        tag, h.hop, at, x0.up, x0.rest, x1.up, x1.rest, x2.up, x2.rest, x3.up, x3.rest, out, to,
-    );
+impl Form for Cubes {
+    ghost suits = { Three 3 };
+
+    fn paint(
+        tag: &[u8],
+        b: TableNumbers,
+        h: Shape,
+        xs: &[u16],
+        i: usize,
+        out: &mut [u16],
+        to: usize,
+    ) {
+        let x0 = along(xs, i, 3, 0, h.dimensions[0]);
+        let x1 = along(xs, i, 3, 1, h.dimensions[1]);
+        let x2 = along(xs, i, 3, 2, h.dimensions[2]);
+        let at = place(h.start, x0.off, x1.off, x2.off, 0);
+        corners::three_cubes(tag, h.hop, at, x0, x1, x2, out, to);
+    }
 }
 
-// The colour of a pixel of any table.
-fn pixel(tag: &[u8], b: TableNumbers, h: Shape, xs: &[u16], i: usize, out: &mut [u16], to: usize)
-    requires { Spot tag.now b h xs.now i out.old to }
-    ensures { out.new ≡ sets out.old to (colour tag.now (table_by tag.now b) (drop i xs.now)) }
-{
-    let n = b.inputs as usize;
-    let x0 = along(xs, i, n, 0, h.g0, h.s0);
-    let x1 = along(xs, i, n, 1, h.g1, h.s1);
-    let x2 = along(xs, i, n, 2, h.g2, h.s2);
-    let x3 = along(xs, i, n, 3, h.g3, h.s3);
-    let at = place(h.start, x0.off, x1.off, x2.off, x3.off);
-    corners::paint(
-        tag,
-        h.hop,
-        at,
-        x0.up,
-        x0.rest,
-        x1.up,
-        x1.rest,
-        x2.up,
-        x2.rest,
-        x3.up,
-        x3.rest,
-        b.outputs as usize,
-        out,
-        to,
-    );
+impl Form for Fours {
+    ghost suits = { Three 4 };
+
+    fn paint(
+        tag: &[u8],
+        b: TableNumbers,
+        h: Shape,
+        xs: &[u16],
+        i: usize,
+        out: &mut [u16],
+        to: usize,
+    ) {
+        let x0 = along(xs, i, 4, 0, h.dimensions[0]);
+        let x1 = along(xs, i, 4, 1, h.dimensions[1]);
+        let x2 = along(xs, i, 4, 2, h.dimensions[2]);
+        let x3 = along(xs, i, 4, 3, h.dimensions[3]);
+        let at = place(h.start, x0.off, x1.off, x2.off, x3.off);
+        corners::three_fours(tag, h.hop, at, x0, x1, x2, x3, out, to);
+    }
 }
 
-// The pixels of a row one after the other, by the same forms.
-fn row_1(tag: &[u8], b: TableNumbers, h: Shape, xs: &[u16], count: usize, out: &mut [u16])
-    requires { ThreeRow tag.now b h xs.now count out.old 1 }
+impl Form for Tables {
+    ghost suits = { Any };
+
+    fn paint(
+        tag: &[u8],
+        b: TableNumbers,
+        h: Shape,
+        xs: &[u16],
+        i: usize,
+        out: &mut [u16],
+        to: usize,
+    ) {
+        let n = b.inputs as usize;
+        let x0 = along(xs, i, n, 0, h.dimensions[0]);
+        let x1 = along(xs, i, n, 1, h.dimensions[1]);
+        let x2 = along(xs, i, n, 2, h.dimensions[2]);
+        let x3 = along(xs, i, n, 3, h.dimensions[3]);
+        let at = place(h.start, x0.off, x1.off, x2.off, x3.off);
+        corners::paint(tag, h.hop, at, x0, x1, x2, x3, b.outputs as usize, out, to);
+    }
+}
+
+// The pixels of a row one after the other.
+fn row<F: Form>(tag: &[u8], b: TableNumbers, h: Shape, xs: &[u16], count: usize, out: &mut [u16])
+    requires { (Row tag.now b h xs.now count out.old) × F.suits b.inputs b.outputs }
     ensures { out.new ≡ sets out.old 0 (colours_of tag.now b xs.now count) }
 {
-    let n = b.inputs as usize;
-    let outs = b.outputs as usize;
-    let mut i = 0;
-    let mut o = 0;
-    let mut k = 0;
-    while k < count {
-        pixel_1(tag, b, h, xs, i, out, o);
-        i += n;
-        o += outs;
-        k += 1;
+    for k in 0..count {
+        F::paint(
+            tag,
+            b,
+            h,
+            xs,
+            k * b.inputs as usize,
+            out,
+            k * b.outputs as usize,
+        );
     }
 }
 
-fn row_2(tag: &[u8], b: TableNumbers, h: Shape, xs: &[u16], count: usize, out: &mut [u16])
-    requires { ThreeRow tag.now b h xs.now count out.old 2 }
-    ensures { out.new ≡ sets out.old 0 (colours_of tag.now b xs.now count) }
-{
-    let n = b.inputs as usize;
-    let outs = b.outputs as usize;
-    let mut i = 0;
-    let mut o = 0;
-    let mut k = 0;
-    while k < count {
-        pixel_2(tag, b, h, xs, i, out, o);
-        i += n;
-        o += outs;
-        k += 1;
-    }
-}
-
-fn row_3(tag: &[u8], b: TableNumbers, h: Shape, xs: &[u16], count: usize, out: &mut [u16])
-    requires { ThreeRow tag.now b h xs.now count out.old 3 }
-    ensures { out.new ≡ sets out.old 0 (colours_of tag.now b xs.now count) }
-{
-    let n = b.inputs as usize;
-    let outs = b.outputs as usize;
-    let mut i = 0;
-    let mut o = 0;
-    let mut k = 0;
-    while k < count {
-        pixel_3(tag, b, h, xs, i, out, o);
-        i += n;
-        o += outs;
-        k += 1;
-    }
-}
-
-fn row_4(tag: &[u8], b: TableNumbers, h: Shape, xs: &[u16], count: usize, out: &mut [u16])
-    requires { ThreeRow tag.now b h xs.now count out.old 4 }
-    ensures { out.new ≡ sets out.old 0 (colours_of tag.now b xs.now count) }
-{
-    let n = b.inputs as usize;
-    let outs = b.outputs as usize;
-    let mut i = 0;
-    let mut o = 0;
-    let mut k = 0;
-    while k < count {
-        pixel_4(tag, b, h, xs, i, out, o);
-        i += n;
-        o += outs;
-        k += 1;
-    }
-}
-
-fn row(tag: &[u8], b: TableNumbers, h: Shape, xs: &[u16], count: usize, out: &mut [u16])
-    requires { Row tag.now b h xs.now count out.old }
-    ensures { out.new ≡ sets out.old 0 (colours_of tag.now b xs.now count) }
-{
-    let n = b.inputs as usize;
-    let outs = b.outputs as usize;
-    let mut i = 0;
-    let mut o = 0;
-    let mut k = 0;
-    while k < count {
-        pixel(tag, b, h, xs, i, out, o);
-        i += n;
-        o += outs;
-        k += 1;
-    }
-}
-
-// One pixel by the form that suits the table, and a row.
-fn one(tag: &[u8], b: TableNumbers, h: Shape, xs: &[u16], out: &mut [u16])
-    requires { Spot tag.now b h xs.now 0 out.old 0 }
-    ensures { out.new ≡ sets out.old 0 (colour tag.now (table_by tag.now b) (drop 0 xs.now)) }
-{
-    if b.outputs == 3 {
-        if b.inputs == 3 {
-            pixel_3(tag, b, h, xs, 0, out, 0);
-            return;
-        }
-        if b.inputs == 4 {
-            pixel_4(tag, b, h, xs, 0, out, 0);
-            return;
-        }
-        if b.inputs == 2 {
-            pixel_2(tag, b, h, xs, 0, out, 0);
-            return;
-        }
-        if b.inputs == 1 {
-            pixel_1(tag, b, h, xs, 0, out, 0);
-            return;
-        }
-    }
-    pixel(tag, b, h, xs, 0, out, 0);
-}
-
+// The same by the form that suits the table.
 fn all(tag: &[u8], b: TableNumbers, h: Shape, xs: &[u16], count: usize, out: &mut [u16])
     requires { Row tag.now b h xs.now count out.old }
     ensures { out.new ≡ sets out.old 0 (colours_of tag.now b xs.now count) }
 {
-    if b.outputs == 3 {
-        if b.inputs == 3 {
-            row_3(tag, b, h, xs, count, out);
-            return;
-        }
-        if b.inputs == 4 {
-            row_4(tag, b, h, xs, count, out);
-            return;
-        }
-        if b.inputs == 2 {
-            row_2(tag, b, h, xs, count, out);
-            return;
-        }
-        if b.inputs == 1 {
-            row_1(tag, b, h, xs, count, out);
-            return;
-        }
+    match (b.inputs, b.outputs) {
+        (1, 3) => row::<Lines>(tag, b, h, xs, count, out),
+        (2, 3) => row::<Planes>(tag, b, h, xs, count, out),
+        (3, 3) => row::<Cubes>(tag, b, h, xs, count, out),
+        (4, 3) => row::<Fours>(tag, b, h, xs, count, out),
+        _ => row::<Tables>(tag, b, h, xs, count, out),
     }
-    row(tag, b, h, xs, count, out);
 }
 
 // The points of a dimension, the last one being 0: 1 where there is none, and 0 where it is below 2.
@@ -298,14 +245,15 @@ fn dim(tag: &[u8], at: usize, step: usize, n: usize, k: usize) -> u32
     if tag.len() <= i {
         return 0;
     }
-    let g = evaluate_parts::wide(tag[i]);
+    let g = tag[i] as u32;
     if g < 2 {
         return 0;
     }
     g
 }
 
-fn judge(tag: &[u8], b: TableNumbers) -> Shape
+// The shape of a table of numbers that are not odd.
+fn measure(tag: &[u8], b: TableNumbers) -> Shape
     requires { (odd_numbers b ≡ false) × (b.grid_at.0 < length tag.now) }
     ensures { ShapeOf tag.now b result }
 {
@@ -323,18 +271,45 @@ fn judge(tag: &[u8], b: TableNumbers) -> Shape
     let s3 = s2 * g2 as usize;
     let bytes = s3 * g3 as usize;
     Shape {
-        g0,
-        s0,
-        g1,
-        s1,
-        g2,
-        s2,
-        g3,
-        s3,
+        dimensions: [
+            Dimension {
+                points: g0,
+                stride: s0,
+            },
+            Dimension {
+                points: g1,
+                stride: s1,
+            },
+            Dimension {
+                points: g2,
+                stride: s2,
+            },
+            Dimension {
+                points: g3,
+                stride: s3,
+            },
+        ],
         bytes,
         start: b.start.0 as usize,
         hop,
     }
+}
+
+// The same of any numbers, refused where they name no table of 1 to 4 inputs in the tag.
+fn judge(tag: &[u8], b: TableNumbers) -> Result<Shape, Refusal>
+    ensures { JudgedAs tag.now b result }
+{
+    if evaluate_parts::odd(b) {
+        return Err(Refusal::NoColourTable);
+    }
+    if tag.len() as u64 <= b.grid_at.0 {
+        return Err(Refusal::NoColourTable);
+    }
+    let h = measure(tag, b);
+    if evaluate_parts::past(tag, b.start.0, h.bytes) {
+        return Err(Refusal::NoColourTable);
+    }
+    Ok(h)
 }
 
 // The colour of a pixel, at one coordinate for each input of the table, into the front of `results`.
@@ -343,30 +318,19 @@ pub fn evaluate(
     numbers: TableNumbers,
     coordinates: &[u16],
     results: &mut [u16],
-) -> Evaluation
+) -> Result<usize, Refusal>
     ensures { Evaluated tag.now numbers coordinates.now results.old result results.new }
 {
-    if evaluate_parts::odd(numbers) {
-        return Evaluation::Refused(Refusal::NoColourTable);
-    }
+    let h = judge(tag, numbers)?;
     if coordinates.len() != numbers.inputs as usize {
-        return Evaluation::Refused(Refusal::NoColourTable);
-    }
-    let grid_at = numbers.grid_at;
-    if tag.len() as u64 <= grid_at.0 {
-        return Evaluation::Refused(Refusal::NoColourTable);
-    }
-    let h = judge(tag, numbers);
-    let start = numbers.start;
-    if evaluate_parts::past(tag, start.0, h.bytes) {
-        return Evaluation::Refused(Refusal::NoColourTable);
+        return Err(Refusal::NoColourTable);
     }
     let outs = numbers.outputs as usize;
     if results.len() < outs {
-        return Evaluation::Refused(Refusal::TooFewSlots);
+        return Err(Refusal::TooFewSlots);
     }
-    one(tag, numbers, h, coordinates, results);
-    Evaluation::Value(outs)
+    all(tag, numbers, h, coordinates, 1, results);
+    Ok(outs)
 }
 
 // The colours of a row of pixels, whose coordinates and results stand pixel after pixel.
@@ -375,31 +339,18 @@ pub fn evaluate_row(
     numbers: TableNumbers,
     coordinates: &[u16],
     results: &mut [u16],
-) -> Evaluation
+) -> Result<usize, Refusal>
     ensures { RowEvaluated tag.now numbers coordinates.now results.old result results.new }
 {
-    if evaluate_parts::odd(numbers) {
-        return Evaluation::Refused(Refusal::NoColourTable);
-    }
-    let n = numbers.inputs as usize;
+    let h = judge(tag, numbers)?;
     let count = evaluate_parts::pixels_in(coordinates.len(), numbers.inputs);
-    if count * n != coordinates.len() {
-        return Evaluation::Refused(Refusal::NoColourTable);
+    if count * numbers.inputs as usize != coordinates.len() {
+        return Err(Refusal::NoColourTable);
     }
-    let grid_at = numbers.grid_at;
-    if tag.len() as u64 <= grid_at.0 {
-        return Evaluation::Refused(Refusal::NoColourTable);
-    }
-    let h = judge(tag, numbers);
-    let start = numbers.start;
-    if evaluate_parts::past(tag, start.0, h.bytes) {
-        return Evaluation::Refused(Refusal::NoColourTable);
-    }
-    let outs = numbers.outputs as usize;
     if evaluate_parts::too_few(results.len(), count, numbers.outputs) {
-        return Evaluation::Refused(Refusal::TooFewSlots);
+        return Err(Refusal::TooFewSlots);
     }
-    let total = count * outs;
+    let total = count * numbers.outputs as usize;
     all(tag, numbers, h, coordinates, count, results);
-    Evaluation::Value(total)
+    Ok(total)
 }

@@ -1,38 +1,21 @@
--- `evaluate::judge` meets its contract: the strides, a dimension at a time.
+-- `evaluate::judge` meets its contract: each test is one of the meaning.
 -- Assumes nothing.
 use borrow.Author.Rules.{rules}
-use Rattle.evaluate.proofs.Judging.{size_some, inputs_few, stride-fits, shaped}
+use mathlib.Core.Path.{sym, ◌∙◌}
+use Rattle.evaluate.proofs.Judging.{odd_judged, nowhere_judged, past_judged, table_judged}
 use Rattle.evaluate.proofs.judge.Goals as goal
 
-pub overflow_sub-hop : goal.overflow_sub-hop
-overflow_sub-hop c = search (rules, size_some)
+pub returns-then-odd : goal.returns-then-odd
+returns-then-odd c = search (rules, odd_judged)
 
-pub overflow_mul-s0 : goal.overflow_mul-s0
-overflow_mul-s0 c = search (rules, stride-fits)
+pub returns-then-tag-b : goal.returns-then-tag-b
+returns-then-tag-b c = nowhere_judged _ _ _ c.odd.ensures c.if-odd.false c.if-tag-b.true
 
-pub dim-g0-requires : goal.dim-g0-requires
-dim-g0-requires c = search (rules, inputs_few)
+pub measure-h-requires : goal.measure-h-requires
+measure-h-requires c = (sym c.odd.ensures ∙ c.if-odd.false, c.if-tag-b.false)
 
-pub dim-g1-requires : goal.dim-g1-requires
-dim-g1-requires c = search (rules, inputs_few)
-
-pub dim-g2-requires : goal.dim-g2-requires
-dim-g2-requires c = search (rules, inputs_few)
-
-pub dim-g3-requires : goal.dim-g3-requires
-dim-g3-requires c = search (rules, inputs_few)
-
-pub overflow_mul-s1 : goal.overflow_mul-s1
-overflow_mul-s1 c = search (rules, stride-fits)
-
-pub overflow_mul-s2 : goal.overflow_mul-s2
-overflow_mul-s2 c = search (rules, stride-fits)
-
-pub overflow_mul-s3 : goal.overflow_mul-s3
-overflow_mul-s3 c = search (rules, stride-fits)
-
-pub overflow_mul-bytes : goal.overflow_mul-bytes
-overflow_mul-bytes c = search (rules, stride-fits)
+pub returns-then-past : goal.returns-then-past
+returns-then-past c = past_judged _ _ _ c.odd.ensures c.if-odd.false _ c.measure-h.ensures _ c.past.ensures c.if-past.true
 
 pub returns : goal.returns
-returns c = search (rules, shaped)
+returns c = table_judged _ _ _ c.odd.ensures c.if-odd.false _ c.measure-h.ensures _ c.past.ensures c.if-past.false

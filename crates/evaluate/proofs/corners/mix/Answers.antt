@@ -1,7 +1,7 @@
 -- `evaluate::corners::mix` meets its contract: a sum of two products that fits 32 bits, rounded without a division by 65535.
 -- Assumes nothing.
 use borrow.Author.Rules.{rules}
-use Rattle.evaluate.proofs.Channels.{mix-fits, mixed, mixed_small}
+use Rattle.evaluate.proofs.Channels.{mix-fits, mixed}
 use Rattle.evaluate.proofs.corners.mix.Goals as goal
 
 pub overflow_mul-t : goal.overflow_mul-t
@@ -19,5 +19,8 @@ overflow_add-t-2 c = search (rules, mix-fits)
 pub overflow_add-result : goal.overflow_add-result
 overflow_add-result c = search (rules, mix-fits)
 
+pub overflow_cast-result : goal.overflow_cast-result
+overflow_cast-result c = search (rules, mix-fits)
+
 pub returns : goal.returns
-returns c = search (rules, mixed, mixed_small)
+returns c = search (rules, mixed)

@@ -16,11 +16,8 @@ three-requires c = search (rules, left-fits)
 pub returns-then-left-ge3 : goal.returns-then-left-ge3
 returns-then-left-ge3 c = search (rules, wrote)
 
-pub cube-a-requires : goal.cube-a-requires
-cube-a-requires c = search (rules, left-fits)
-
-pub cube-b-requires : goal.cube-b-requires
-cube-b-requires c = search (rules, left-fits)
+pub four-requires : goal.four-requires
+four-requires c = search (rules, left-fits)
 
 pub returns : goal.returns
 returns c = search (rules, wrote)

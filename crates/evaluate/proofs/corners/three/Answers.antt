@@ -4,5 +4,5 @@ use borrow.Author.Rules.{rules}
 use Rattle.evaluate.proofs.Channels.{flatly}
 use Rattle.evaluate.proofs.corners.three.Goals as goal
 
-pub returns-then-p-eq0 : goal.returns-then-p-eq0
-returns-then-p-eq0 c = search (rules, flatly)
+pub returns-then-x3-eq0 : goal.returns-then-x3-eq0
+returns-then-x3-eq0 c = search (rules, flatly)

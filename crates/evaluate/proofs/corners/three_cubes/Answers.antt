@@ -7,5 +7,5 @@ use Rattle.evaluate.proofs.corners.three_cubes.Goals as goal
 pub returns-then-hop-eq1 : goal.returns-then-hop-eq1
 returns-then-hop-eq1 c = search (rules, by_size)
 
-pub returns : goal.returns
-returns c = search (rules, by_size)
+pub returns-else-hop-eq1 : goal.returns-else-hop-eq1
+returns-else-hop-eq1 c = search (rules, by_size)

@@ -1,0 +1,17 @@
+-- `evaluate::corners::four_cubes_by` meets its contract: four cubes, written one behind the other.
+-- Assumes nothing.
+use borrow.Author.Rules.{rules}
+use Rattle.evaluate.proofs.Channels.{places-in, four_cubes}
+use Rattle.evaluate.proofs.corners.four_cubes_by.Goals as goal
+
+pub bounds-out-to-2 : goal.bounds-out-to-2
+bounds-out-to-2 g c = search (rules, places-in)
+
+pub bounds-out-to-3 : goal.bounds-out-to-3
+bounds-out-to-3 g c = search (rules, places-in)
+
+pub bounds-out-to-4 : goal.bounds-out-to-4
+bounds-out-to-4 g c = search (rules, places-in)
+
+pub returns : goal.returns
+returns g c = search (rules, four_cubes)
