@@ -9,12 +9,12 @@ use mathlib.Core.Bool.{Bool, true, false}
 use mathlib.Core.List.{List}
 use lib.ListN.{length, set, length-set}
 use lib.Seq.{sets}
+use Rattle.std.specs.Prelude.{Ok, Err}
 use Rattle.fields.specs.declared.Refusal.{Refusal}
 use Rattle.lut_view_meaning.specs.View.{table_by}
 use Rattle.lut_view_meaning.specs.declared.TableNumbers.{TableNumbers}
 use Rattle.evaluate_meaning.specs.Colour.{colour_of, corner_of, colours_from, colour}
 use Rattle.evaluate_meaning.specs.Evaluate.{odd_numbers, outside, no_table, Evaluated}
-use Rattle.evaluate_meaning.specs.declared.Evaluation.{Evaluation}
 use Rattle.evaluate_meaning.proofs.Answered.{pixel_odd, pixel_uneven, pixel_tableless, pixel_short, pixel_value}
 use Rattle.evaluate_meaning.proofs.Grid.{dimensions}
 use Rattle.evaluate_meaning.proofs.There.{There, both_passed}
@@ -76,14 +76,14 @@ module _ (t : List ℕ) (n : TableNumbers) (xs s : List ℕ) (x : Bool) (v : x �
   unfolding no_table
   by_tests b f = rw (sym v ∙ e) (sym w ∙ f)
 
-  pub said_outside : y ≡ true → Evaluated t n xs s (Evaluation.Refused Refusal.NoColourTable) s
+  pub said_outside : y ≡ true → Evaluated t n xs s (Err Refusal.NoColourTable) s
   said_outside f = pixel_tableless t n xs s (by_tests true f)
 
   module _ (f : y ≡ false) (m : length xs ≡ n.inputs) where
-    pub said_short : length s < n.outputs → Evaluated t n xs s (Evaluation.Refused Refusal.TooFewSlots) s
+    pub said_short : length s < n.outputs → Evaluated t n xs s (Err Refusal.TooFewSlots) s
     said_short = pixel_short t n xs s (by_tests false f) m
 
-    pub said_value : n.outputs ≤ length s → (s' : List ℕ) (channel : ℕ) → Filling t n xs s s' channel → n.outputs ≤ channel → Evaluated t n xs s (Evaluation.Value n.outputs) s'
+    pub said_value : n.outputs ≤ length s → (s' : List ℕ) (channel : ℕ) → Filling t n xs s s' channel → n.outputs ≤ channel → Evaluated t n xs s (Ok n.outputs) s'
     said_value l s' channel g h = pixel_value t n xs s (by_tests false f) m l s' (filled t n xs s s' channel g h)
 
 pub ruleset said-laws = (pixel_odd, said_outside, pixel_uneven, said_short, said_value)

@@ -17,8 +17,8 @@ use Rattle.fields.proofs.Never.{never}
 use Rattle.lut_clut_meaning.specs.Clut.{is_flat}
 use Rattle.lut_clut_meaning.specs.Table.{product}
 use Rattle.lut_view_meaning.specs.Answer.{value, absent, in_numbers as entryNumbers}
+use Rattle.std.specs.Prelude.{Option, Some, None}
 use Rattle.lut_view_meaning.specs.View.{stored_at, entry_from, table_by}
-use Rattle.lut_view_meaning.specs.declared.EntryAnswer.{EntryAnswer}
 use Rattle.lut_view_meaning.specs.declared.TableNumbers.{TableNumbers}
 use Rattle.evaluate_meaning.specs.Colour.{cell_of, rest_of, blend, between, colour_of, sample_at, corner_of}
 use Rattle.evaluate_meaning.proofs.Behind as Behind
@@ -75,15 +75,15 @@ pub ruleset blend-laws = (low_fits, high_fits, sum_fits, rounded_fits, blend_fit
 abbrev stored_of : List ℕ → TableNumbers → ℕ → ℕ
 stored_of t n number = stored_at t (n.start.0 + number * n.entry_size) n.entry_size
 
-module _ (t : List ℕ) (n : TableNumbers) (number : ℕ) (i : InTable t n number) (r : EntryAnswer) (e : entryNumbers r ≡ entry_from t n.start.0 n.entry_size number) where
+module _ (t : List ℕ) (n : TableNumbers) (number : ℕ) (i : InTable t n number) (r : Option ℕ) (e : entryNumbers r ≡ entry_from t n.start.0 n.entry_size number) where
   there : entryNumbers r ≡ value (stored_of t n number)
   unfolding entry_from
   there = e ∙ simp (le-ltb _ _ i.least, le-ltb _ _ i.most, le-ltb _ _ i.inside)
 
-  pub corner_never : r ≡ EntryAnswer.Absent → 0 ≡ sample_of t n number
+  pub corner_never : r ≡ None → 0 ≡ sample_of t n number
   corner_never f = let w : absent ≡ value (stored_of t n number) = rw f at there in never cc
 
-  module _ (v : ℕ) (f : r ≡ EntryAnswer.Value v) where
+  module _ (v : ℕ) (f : r ≡ Some v) where
     is_stored : v ≡ stored_of t n number
     is_stored = let w : value v ≡ value (stored_of t n number) = rw f at there in cc
 

@@ -7,9 +7,8 @@ ghost use Rattle.evaluate_meaning.specs.Colour.{blend};
 ghost use Rattle.evaluate_meaning.specs.Evaluate.{outside, Evaluated};
 ghost use Rattle.evaluate_plain.specs.Parts.{Points, Placed, sample_of, InTable, grid_for, value_of, Room};
 
-use evaluate_meaning::Evaluation;
 use fields::{InTag, Refusal};
-use lut_view_meaning::{EntryAnswer, TableNumbers};
+use lut_view_meaning::TableNumbers;
 
 // The greatest coordinate, and the parts of the way from point to point in which positions are told.
 const WHOLE: u32 = 65535;
@@ -32,8 +31,8 @@ fn points(tag: &[u8], at: InTag, step: u8, left: u8) -> u64
     if here < 2 {
         return 0;
     }
-    let behind = points(tag, InTag(at.0 + (step as u64)), step, left - 1);
-    (here as u64) * behind
+    let behind = points(tag, InTag(at.0 + step as u64), step, left - 1);
+    here as u64 * behind
 }
 
 // Whether a dimension is below 2, or the entries pass the tag.
@@ -51,7 +50,7 @@ fn passes(tag: &[u8], numbers: TableNumbers) -> bool
     if len < start.0 {
         return true;
     }
-    len - start.0 < points * (numbers.outputs as u64) * (numbers.entry_size as u64)
+    len - start.0 < points * numbers.outputs as u64 * numbers.entry_size as u64
 }
 
 // The point of a dimension at a position or below it, and the rest of the way to the next one.
@@ -66,7 +65,7 @@ fn cell_of(points: u8, coordinate: u16) -> Cell
     requires { 2 ≤ points }
     ensures { Placed points coordinate result.lower result.rest }
 {
-    let position = (coordinate as u32) * ((points as u32) - 1);
+    let position = coordinate as u32 * (points as u32 - 1);
     Cell {
         lower: (position / WHOLE) as u64,
         rest: (position % WHOLE) as u16,
@@ -77,7 +76,7 @@ fn cell_of(points: u8, coordinate: u16) -> Cell
 fn blended(low: u16, high: u16, rest: u16) -> u16
     ensures { result ≡ blend low high rest }
 {
-    let sum = (low as u32) * (WHOLE - (rest as u32)) + (high as u32) * (rest as u32);
+    let sum = low as u32 * (WHOLE - rest as u32) + high as u32 * rest as u32;
     ((sum + HALF) / WHOLE) as u16
 }
 
@@ -86,8 +85,7 @@ fn corner(tag: &[u8], numbers: TableNumbers, number: u64) -> u16
     requires { InTable tag.now numbers number }
     ensures { result ≡ sample_of tag.now numbers number }
 {
-    let read = lut_view::entry_by_number(tag, numbers, number);
-    let EntryAnswer::Value(entry) = read else {
+    let Some(entry) = lut_view::entry_by_number(tag, numbers, number) else {
         return 0;
     };
     if numbers.entry_size == 1 {
@@ -113,13 +111,13 @@ fn value(
         return corner(
             tag,
             numbers,
-            point * (numbers.outputs as u64) + (channel as u64),
+            point * numbers.outputs as u64 + channel as u64,
         );
     }
     let points = fields::u8_at(tag, at);
     let cell = cell_of(points, coordinates[0]);
-    let lower = point * (points as u64) + cell.lower;
-    let next = InTag(at.0 + (numbers.grid_step as u64));
+    let lower = point * points as u64 + cell.lower;
+    let next = InTag(at.0 + numbers.grid_step as u64);
     let behind = &coordinates[1..];
     let low = value(tag, numbers, next, behind, lower, channel);
     if cell.rest == 0 {
@@ -136,28 +134,25 @@ pub fn evaluate_by_recursion(
     numbers: TableNumbers,
     coordinates: &[u16],
     results: &mut [u16],
-) -> Evaluation
+) -> Result<usize, Refusal>
     ensures { Evaluated tag.now numbers coordinates.now results.old result results.new }
 {
     if evaluate_parts::odd(numbers) {
-        return Evaluation::Refused(Refusal::NoColourTable);
+        return Err(Refusal::NoColourTable);
     }
     if passes(tag, numbers) {
-        return Evaluation::Refused(Refusal::NoColourTable);
+        return Err(Refusal::NoColourTable);
     }
-    if coordinates.len() != (numbers.inputs as usize) {
-        return Evaluation::Refused(Refusal::NoColourTable);
+    if coordinates.len() != numbers.inputs as usize {
+        return Err(Refusal::NoColourTable);
     }
     let outputs = numbers.outputs as usize;
     if results.len() < outputs {
-        return Evaluation::Refused(Refusal::TooFewSlots);
+        return Err(Refusal::TooFewSlots);
     }
     let grid_at = numbers.grid_at;
-    let mut channel: u8 = 0;
-    while channel < numbers.outputs {
-        let i = channel as usize;
-        results[i] = value(tag, numbers, grid_at, coordinates, 0, channel);
-        channel += 1;
+    for channel in 0..numbers.outputs {
+        results[channel as usize] = value(tag, numbers, grid_at, coordinates, 0, channel);
     }
-    Evaluation::Value(outputs)
+    Ok(outputs)
 }
