@@ -3,7 +3,9 @@ use Rattle.std.specs.Prelude.{ℕ, ◌-◌, ◌%◌, cond, List, [], ◌∷◌, 
 use Rattle.fields.specs.Tag.{signature_of}
 use Rattle.fields.specs.declared.Kind.TheVariants.{Mft1, Mft2, Mab, Mba}
 use Rattle.lut_mft_meaning.specs.Answer.{Fields}
-use Rattle.lut_meaning.specs.Answer.{Abm, State, Answer}
+use Rattle.lut_mft_meaning.specs.Answer.{fields_from}
+use Rattle.lut_meaning.specs.Answer.{Abm, State, Answer, table_from}
+use Rattle.lut_meaning.specs.declared.Lut.{Lut}
 use Rattle.lut_view_meaning.specs.Answer.{Answer as Entry-as-Answer}
 use Rattle.lut_view_meaning.specs.View.{no_numbers}
 use Rattle.lut_view_meaning.specs.declared.TableNumbers.{TableNumbers}
@@ -35,7 +37,15 @@ lut_exported_by (State.refused n) grid matrix bias = only n
 abbrev pub lut_exported : Answer → Exported
 lut_exported a = lut_exported_by a.state a.grid a.matrix a.bias
 
+-- the words of a lookup table
+abbrev pub lut_words : Lut → List ℕ
+lut_words (Lut.Mft m) = mft_head (fields_from m.table) ++ m.matrix ++ mft_ranges (fields_from m.table)
+lut_words (Lut.Abm l) = abm_head (table_from l.table) ++ l.grid ++ l.matrix ++ l.bias ++ abm_parts (table_from l.table)
+
 -- the entry
+abbrev pub entry_words : ℕ → List ℕ
+entry_words n = n ∷ []
+
 abbrev pub entry_exported : Entry-as-Answer → Exported
 entry_exported (Entry-as-Answer.value n) = value (n ∷ [])
 entry_exported Entry-as-Answer.absent = absent

@@ -9,13 +9,13 @@ ghost use Rattle.lut_meaning.specs.Answer.{in_numbers, table_from};
 ghost use Rattle.lut_mft_meaning.specs.Answer.{fields_from};
 ghost use Rattle.lut_view_meaning.specs.Answer.{in_numbers as Entry·inNumbers};
 ghost use Rattle.export_words.specs.Exported.{always, Gave};
-ghost use Rattle.export_lut.specs.Layout.{mft_head, mft_ranges, abm_head, abm_parts, lut_exported, entry_exported, lut_layout, entry_layout, mft_numbers, abm_numbers, numbers_in};
+ghost use Rattle.export_lut.specs.Layout.{lut_words, entry_words, mft_head, mft_ranges, abm_head, abm_parts, lut_exported, entry_exported, lut_layout, entry_layout, mft_numbers, abm_numbers, numbers_in};
 
-use export_words::{ABSENT, Layout, VALUE};
-use fields::{InTag, Kind};
-use lut_meaning::{AbmTable, Lut, LutAnswer};
-use lut_mft_meaning::MftTable;
-use lut_view_meaning::{EntryAnswer, NO_NUMBERS, TableNumbers};
+use export_words::{Layout, Missing, Tells};
+use fields::{InTag, Kind, Refusal};
+use lut_meaning::{Abm, AbmTable, Lut};
+use lut_mft_meaning::{Mft, MftTable};
+use lut_view_meaning::{NO_NUMBERS, TableNumbers};
 
 // How the words of each type are laid out; `mAB ` and `mBA ` have the most.
 const MFT: Layout = Layout {
@@ -73,27 +73,23 @@ fn put_mft_head(out: &mut [u64], t: MftTable)
 fn put_mft_ranges(out: &mut [u64], t: MftTable)
     ensures { out.new ≡ sets out.old 15 (mft_ranges (fields_from t)) }
 {
-    let input = t.input_start;
-    let clut = t.clut_start;
-    let output = t.output_start;
     let ranges = [
-        input.0,
+        t.input_start.0,
         t.input_length,
-        clut.0,
+        t.clut_start.0,
         t.clut_length,
-        output.0,
+        t.output_start.0,
         t.output_length,
     ];
     export_words::put_numbers(out, 15, &ranges);
 }
 
-fn put_mft(out: &mut [u64], t: MftTable, matrix: &[u32])
-    requires { length matrix.now ≡ 9 }
-    ensures { out.new ≡ sets out.old 0 (mft_head (fields_from t) ++ matrix.now ++ mft_ranges (fields_from t)) }
+fn put_mft(out: &mut [u64], mft: Mft)
+    ensures { out.new ≡ sets out.old 0 (lut_words (Lut.Mft mft)) }
 {
-    put_mft_head(out, t);
-    export_words::put_words(out, 6, matrix);
-    put_mft_ranges(out, t);
+    put_mft_head(out, mft.table);
+    export_words::put_words(out, 6, &mft.matrix);
+    put_mft_ranges(out, mft.table);
 }
 
 // The signature of `mAB ` or `mBA `.
@@ -113,9 +109,8 @@ fn put_abm_head(out: &mut [u64], t: AbmTable)
 fn put_abm_parts(out: &mut [u64], t: AbmTable)
     ensures { out.new ≡ sets out.old 31 (abm_parts (table_from t)) }
 {
-    let clut = t.clut_start;
     let parts = [
-        clut.0,
+        t.clut_start.0,
         t.clut_length as u64,
         t.entry_size as u64,
         t.a_curves as u64,
@@ -125,61 +120,59 @@ fn put_abm_parts(out: &mut [u64], t: AbmTable)
     export_words::put_numbers(out, 31, &parts);
 }
 
-fn put_abm(out: &mut [u64], t: AbmTable, grid: &[u8], matrix: &[u32], bias: &[u32])
-    requires { (length grid.now ≡ 16) × (length matrix.now ≡ 9) × (length bias.now ≡ 3) }
-    ensures { out.new ≡ sets out.old 0 (abm_head (table_from t) ++ grid.now ++ matrix.now ++ bias.now ++ abm_parts (table_from t)) }
+fn put_abm(out: &mut [u64], abm: Abm)
+    ensures { out.new ≡ sets out.old 0 (lut_words (Lut.Abm abm)) }
 {
-    put_abm_head(out, t);
-    export_words::put_bytes(out, 3, grid);
-    export_words::put_words(out, 19, matrix);
-    export_words::put_words(out, 28, bias);
-    put_abm_parts(out, t);
+    put_abm_head(out, abm.table);
+    export_words::put_bytes(out, 3, &abm.grid);
+    export_words::put_words(out, 19, &abm.matrix);
+    export_words::put_words(out, 28, &abm.bias);
+    put_abm_parts(out, abm.table);
 }
 
 // A lookup table: of `mft1` and `mft2` 21 words, of `mAB ` and `mBA ` 37, in the order of specs/Layout.antt.
-pub fn tell_lut(got: Lut, out: &mut [u64]) -> u32
+struct LutTold;
+
+impl Tells for LutTold {
+    type Value = Lut;
+
+    ghost layout = { lut_layout };
+
+    ghost words = { lut_words };
+
+    fn put(lut: Lut, out: &mut [u64]) {
+        match lut {
+            Lut::Mft(mft) => put_mft(out, mft),
+            Lut::Abm(abm) => put_abm(out, abm),
+        }
+    }
+}
+
+pub fn tell_lut(got: Result<Option<Lut>, Refusal>, out: &mut [u64]) -> u32
     ensures { Gave lut_layout (lut_exported (in_numbers got)) result out.old out.new }
 {
-    let answer = got.answer;
-    let grid = got.grid;
-    let matrix = got.matrix;
-    let bias = got.bias;
-    match answer {
-        LutAnswer::Mft(t) => {
-            put_mft(out, t, &matrix);
-            VALUE
-        }
-        LutAnswer::Abm(t) => {
-            put_abm(out, t, &grid, &matrix, &bias);
-            VALUE
-        }
-        LutAnswer::Absent => ABSENT,
-        LutAnswer::Refused(why) => why.number(),
-    }
+    export_words::tell::<LutTold>(got, Missing::Absent, out)
 }
 
 // An entry of a colour table: one word.
-pub fn tell_entry(got: EntryAnswer, out: &mut [u64]) -> u32
-    ensures { Gave (always entry_layout) (entry_exported (Entry·inNumbers got)) result out.old out.new }
-{
-    match got {
-        EntryAnswer::Value(entry) => {
-            let word = [entry as u64];
-            export_words::put_numbers(out, 0, &word);
-            VALUE
-        }
-        EntryAnswer::Absent => ABSENT,
+struct EntryTold;
+
+impl Tells for EntryTold {
+    type Value = u16;
+
+    ghost layout = { always entry_layout };
+
+    ghost words = { entry_words };
+
+    fn put(entry: u16, out: &mut [u64]) {
+        export_words::put_numbers(out, 0, &[u64::from(entry)]);
     }
 }
 
-// The sixteen grid bytes of `mAB ` and `mBA ` and four more stand before the entries.
-fn grid_before(start: u64) -> u64
-    ensures { result ≡ start - 20 }
+pub fn tell_entry(got: Option<u16>, out: &mut [u64]) -> u32
+    ensures { Gave (always entry_layout) (entry_exported (Entry·inNumbers got)) result out.old out.new }
 {
-    if start < 20 {
-        return 0;
-    }
-    start - 20
+    export_words::tell::<EntryTold>(Ok(got), Missing::Absent, out)
 }
 
 // The low byte of a word by its number.
@@ -211,7 +204,7 @@ fn abm_numbers(words: &[u64]) -> TableNumbers
         entry_size: byte_at(words, 33),
         inputs: byte_at(words, 1),
         outputs: byte_at(words, 2),
-        grid_at: InTag(grid_before(start)),
+        grid_at: InTag(start.saturating_sub(20)),
         grid_step: 1,
     }
 }
