@@ -1,38 +1,30 @@
--- What is told of an evaluation: of one that a `match` took apart, and by the room of the words of the lookup table.
+-- What is told of an evaluation, by the room of the words of the lookup table.
 -- Assumes nothing.
 use Prim.Native.Nat.{ℕ, ◌≤◌, ◌<◌}
 use mathlib.Core.Path.{◌≡◌}
 use mathlib.Core.List.{List}
 use lib.ListN.{length}
 use borrow.Author.Tests.{lt-ltb, le-ltb}
-use Rattle.fields.specs.Refusals.{refusal_number}
+use Rattle.std.specs.Prelude.{Result}
 use Rattle.fields.specs.declared.Refusal.{Refusal}
 use Rattle.evaluate_meaning.specs.Answer.{Answer, in_numbers}
 use Rattle.evaluate_meaning.specs.Evaluate.{pixel_answer, pixel_after, Evaluated, row_answer, row_after, RowEvaluated}
-use Rattle.evaluate_meaning.specs.declared.Evaluation.{Evaluation}
 use Rattle.lut_view_meaning.specs.declared.TableNumbers.{TableNumbers}
 use Rattle.export_lut.specs.Layout.{numbers_in}
 use Rattle.export_evaluate.specs.Told.{status_of, GaveResults}
-
--- results, and a refusal
-pub told_value : (got : Evaluation) (n : ℕ) → got ≡ Evaluation.Value n → 0 ≡ status_of (in_numbers got)
-told_value got n e = rw e
-
-pub told_refused : (got : Evaluation) (why : Refusal) (r : ℕ) → got ≡ Evaluation.Refused why → r ≡ refusal_number why → r ≡ status_of (in_numbers got)
-told_refused got why r e h = rw e h
 
 -- words of a lookup table that are too few, and those that are enough
 pub short_lut : (lut : List ℕ) (answer : Answer) (left results : List ℕ) → length lut < 37 → GaveResults lut answer left 102 results results
 short_lut lut answer left results h = record { status_is = rw (lt-ltb _ _ h); results_are = rw (lt-ltb _ _ h) }
 
-long_lut : (lut : List ℕ) (got : Evaluation) (answer : Answer) (left : List ℕ) (r : ℕ) (results results' : List ℕ) → 37 ≤ length lut → in_numbers got ≡ answer → results' ≡ left → r ≡ status_of (in_numbers got) → GaveResults lut answer left r results results'
+long_lut : (lut : List ℕ) (got : Result ℕ Refusal) (answer : Answer) (left : List ℕ) (r : ℕ) (results results' : List ℕ) → 37 ≤ length lut → in_numbers got ≡ answer → results' ≡ left → r ≡ status_of (in_numbers got) → GaveResults lut answer left r results results'
 long_lut lut got answer left r results results' h e f s = record { status_is = rw (le-ltb _ _ h, ← e) s; results_are = rw (le-ltb _ _ h) f }
 
 -- a pixel and a row, by the numbers that the words tell
-pub pixel_told : (lut t xs results results' : List ℕ) (numbers : TableNumbers) (got : Evaluation) (r : ℕ) → 37 ≤ length lut → numbers ≡ numbers_in lut → Evaluated t numbers xs results got results' → r ≡ status_of (in_numbers got) → GaveResults lut (pixel_answer t (numbers_in lut) xs (length results)) (pixel_after t (numbers_in lut) xs results) r results results'
+pub pixel_told : (lut t xs results results' : List ℕ) (numbers : TableNumbers) (got : Result ℕ Refusal) (r : ℕ) → 37 ≤ length lut → numbers ≡ numbers_in lut → Evaluated t numbers xs results got results' → r ≡ status_of (in_numbers got) → GaveResults lut (pixel_answer t (numbers_in lut) xs (length results)) (pixel_after t (numbers_in lut) xs results) r results results'
 pixel_told lut t xs results results' numbers got r h e v s = rw (← e) (long_lut lut got _ _ r results results' h v.answer v.left s)
 
-pub row_told : (lut t xs results results' : List ℕ) (numbers : TableNumbers) (got : Evaluation) (r : ℕ) → 37 ≤ length lut → numbers ≡ numbers_in lut → RowEvaluated t numbers xs results got results' → r ≡ status_of (in_numbers got) → GaveResults lut (row_answer t (numbers_in lut) xs (length results)) (row_after t (numbers_in lut) xs results) r results results'
+pub row_told : (lut t xs results results' : List ℕ) (numbers : TableNumbers) (got : Result ℕ Refusal) (r : ℕ) → 37 ≤ length lut → numbers ≡ numbers_in lut → RowEvaluated t numbers xs results got results' → r ≡ status_of (in_numbers got) → GaveResults lut (row_answer t (numbers_in lut) xs (length results)) (row_after t (numbers_in lut) xs results) r results results'
 row_told lut t xs results results' numbers got r h e v s = rw (← e) (long_lut lut got _ _ r results results' h v.answer v.left s)
 
 -- a caller whose words are enough has the answer's status, and the buffer as the answer asks

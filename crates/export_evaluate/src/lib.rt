@@ -5,14 +5,14 @@ ghost use Rattle.std.specs.Prelude.{◌≡◌};
 ghost use Rattle.evaluate_meaning.specs.Answer.{in_numbers};
 ghost use Rattle.export_evaluate.specs.Told.{status_of};
 
-use evaluate_meaning::Evaluation;
 use export_words::VALUE;
+use fields::Refusal;
 
-pub fn tell_evaluation(got: Evaluation) -> u32
+pub fn tell_evaluation(got: Result<usize, Refusal>) -> u32
     ensures { result ≡ status_of (in_numbers got) }
 {
     match got {
-        Evaluation::Value(_) => VALUE,
-        Evaluation::Refused(why) => why.number(),
+        Ok(_) => VALUE,
+        Err(why) => u32::from(why),
     }
 }
