@@ -4,6 +4,8 @@ ghost use Rattle.export_words.specs.Exported.{always, within, Gave};
 ghost use Rattle.export_curve.specs.Layout.{walk_of, curve_exported, curve_layout};
 
 use crate::NO_ROOM;
+use export_curve::ToneCurve;
+use export_words::Missing;
 use fields::Entry;
 
 // curve::read_trc_tag. Walk 0 is the crate walk, any other number the book walk. Eleven words: kind, start, count, the seven parameters
@@ -28,5 +30,5 @@ pub fn khalyksor_read_trc_tag(
         limit,
         export_curve::walk_of(walk),
     );
-    export_curve::tell_curve(got, out)
+    export_words::tell::<ToneCurve>(got, Missing::Absent, out)
 }

@@ -13,6 +13,7 @@ mod version;
 
 pub use curves::khalyksor_read_trc_tag;
 pub use evaluations::{khalyksor_evaluate, khalyksor_evaluate_row};
+use export_words::NO_ROOM;
 pub use smalls::{
     khalyksor_full_range, khalyksor_read_chad_tag, khalyksor_read_cicp_tag,
     khalyksor_read_date_time_tag, khalyksor_read_meas_tag, khalyksor_read_tech_tag,
@@ -21,6 +22,3 @@ pub use smalls::{
 pub use tables::{khalyksor_entry_at, khalyksor_read_lut_tag};
 pub use texts::khalyksor_read_string_tag;
 pub use version::khalyksor_version;
-
-// The status of an `out` or a `lut` that is too short.
-const NO_ROOM: u32 = 102;
