@@ -1,4 +1,6 @@
 // The colour of one pixel by the plain rule, which calls itself dimension by dimension. It reads the table by the promises of the view alone.
+//
+// Numbers are widened by `as`: what `From` answers is a name of its own, and the proofs of the products and sums did not close on it.
 #![tactic(auto)]
 
 ghost use Rattle.std.specs.Prelude.{◌≡◌, ◌≤◌};
