@@ -87,10 +87,7 @@ fn put(slots: &mut [u32], at: usize, r: TextRecord)
     requires { at + text_record_words ≤ length slots.old }
     ensures { slots.new ≡ sets slots.old at (placed_words (record_from r)) }
 {
-    slots[at] = r.language;
-    slots[at + 1] = r.country;
-    slots[at + 2] = r.start;
-    slots[at + 3] = r.length;
+    slots[at..at + TEXT_RECORD_WORDS].copy_from_slice(&[r.language, r.country, r.start, r.length]);
 }
 
 // Writes n records that were judged whole, from the first slot on.
