@@ -6,23 +6,28 @@ use native.Mathlib.Nat.{mul-le-mul, one-le-mul}
 use mathlib.Core.Path.{◌≡◌, refl, sym, ap, ◌∙◌}
 use mathlib.Core.Bool.{Bool, true, false, ◌||◌, true≢false}
 use mathlib.Core.List.{List, [], ◌∷◌}
-use lib.ListN.{length, get_or, get_or-eq_default}
+use lib.ListN.{length, get_or, drop, get_or-eq_default}
+use lib.Seq.{sets}
 use lib.Dec.{ltb, eqb}
 use mir.Syntax.{w64}
 use mir.Val.{Fits}
 use borrow.Author.Tests.{eq-eqb, ne_eqb, lt-ltb, le-ltb, ltb-false}
+use Rattle.std.specs.Prelude.{Ok, Err}
+use Rattle.fields.specs.declared.Refusal.{Refusal}
 use Rattle.fields.specs.Some.{some}
-use Rattle.fields.specs.declared.Refusal.TheVariants.{NoColourTable}
+use Rattle.fields.specs.declared.Refusal.TheVariants.{NoColourTable, TooFewSlots}
 use Rattle.fields.proofs.Choice.{neither_left, neither_right}
 use Rattle.lut_clut_meaning.specs.Clut.{is_flat}
 use Rattle.lut_clut_meaning.specs.Table.{product}
 use Rattle.lut_view_meaning.specs.View.{grid_from, table_by}
 use Rattle.lut_view_meaning.specs.declared.TableNumbers.{TableNumbers}
-use Rattle.evaluate_meaning.specs.Evaluate.{odd_numbers, outside, no_table}
+use Rattle.evaluate_meaning.specs.Colour.{colour}
+use Rattle.evaluate_meaning.specs.Evaluate.{odd_numbers, outside, no_table, Evaluated}
+use Rattle.evaluate_meaning.proofs.Answered.{pixel_tableless, pixel_short, pixel_value}
 use Rattle.evaluate_meaning.proofs.Grid.{solid_product, dimensions}
 use Rattle.evaluate_meaning.proofs.Odd.{Even, even}
 use Rattle.evaluate_parts.specs.Tests.{past_of}
-use Rattle.evaluate.specs.Parts.{dim_of, ShapeOf, Judged, Tableless}
+use Rattle.evaluate.specs.Parts.{dim_of, dimension, ShapeOf, Judged, Tableless, Spot}
 use Rattle.evaluate.specs.declared.Shape.{Shape}
 use Rattle.evaluate.proofs.Pixels.{bytes_all}
 
@@ -212,3 +217,20 @@ module _ (t : List ℕ) (b : TableNumbers) (x : Bool) (v : x ≡ odd_numbers b) 
 pub is_there : (t : List ℕ) (b : TableNumbers) (h : Shape) → Judged t b h → no_table t b ≡ false
 unfolding Judged
 is_there t b h y = y.there
+
+-- ---- the answers for a pixel
+
+module _ (t : List ℕ) (b : TableNumbers) (xs words : List ℕ) where
+  pub pixel_refused : (why : Refusal) → Tableless t b why → Evaluated t b xs words (Err why) words
+  pixel_refused why k = rw k.is_why (pixel_tableless t b xs words k.none)
+
+  module _ (h : Shape) (table : Judged t b h) (m : length xs ≡ b.inputs) where
+    pub pixel_no_room : length words < b.outputs → Evaluated t b xs words (Err TooFewSlots) words
+    pixel_no_room = pixel_short t b xs words (is_there t b h table) m
+
+    module _ (l : b.outputs ≤ length words) where
+      pub pixel_spot : Spot t b h xs 0 words 0
+      pixel_spot = record { judged = table; coords = omega arith; room = omega arith }
+
+      pub pixel_done : (after : List ℕ) → after ≡ sets words 0 (colour t (table_by t b) (drop 0 xs)) → Evaluated t b xs words (Ok b.outputs) after
+      pixel_done = pixel_value t b xs words (is_there t b h table) m l

@@ -18,18 +18,17 @@ use Rattle.fields.specs.declared.Refusal.TheVariants.{NoColourTable, TooFewSlots
 use Rattle.lut_view_meaning.specs.View.{table_by}
 use Rattle.lut_view_meaning.specs.declared.TableNumbers.{TableNumbers}
 use Rattle.evaluate_meaning.specs.Colour.{cell_of, colour_of, corner_of, colours_from, colour}
-use Rattle.evaluate_meaning.specs.Evaluate.{no_table, colours_of, Evaluated, RowEvaluated}
-use Rattle.evaluate_meaning.proofs.Answered.{pixel_tableless, pixel_short, pixel_value, row_uneven, row_tableless, row_short, row_value}
+use Rattle.evaluate_meaning.specs.Evaluate.{odd_numbers, no_table, colours_of, RowEvaluated}
+use Rattle.evaluate_meaning.proofs.Answered.{row_uneven, row_tableless, row_short, row_value}
 use Rattle.evaluate_meaning.proofs.Bounds.{length_colours}
 use Rattle.evaluate_meaning.proofs.Grid.{as_many}
 use Rattle.evaluate_meaning.proofs.Odd.{Even, even}
-use Rattle.evaluate_parts.specs.Tests.{count_of}
+use Rattle.evaluate_parts.specs.Tests.{past_of, count_of}
 use Rattle.evaluate_parts.proofs.Laws.{count_is, count_fits, none_left, some_left}
-use Rattle.evaluate.specs.Parts.{Judged, Tableless, Spot, Row}
+use Rattle.evaluate.specs.Parts.{ShapeOf, Judged, Tableless, Spot, Row}
 use Rattle.evaluate.specs.declared.Shape.{Shape}
 use Rattle.evaluate.proofs.Channels.{sets_append}
 use Rattle.evaluate.proofs.Judging.{is_there}
-use borrow.Author.Rules.{rules}
 use Rattle.evaluate.proofs.Pixels.{is_even}
 
 -- ---- coordinates behind a pixel's own change nothing
@@ -100,29 +99,6 @@ module _ (t : List ℕ) (b : TableNumbers) (h : Shape) (xs : List ℕ) (count : 
     pub row_ends : count ≤ k → words ≡ sets words₀ 0 (colours_of t b xs count)
     unfolding colours_of
     row_ends l = let z : count - k ≡ 0 = omega arith in rw z at w.left
-
--- ---- the answers for a pixel, a row of one
-
-row_of_one : (t : List ℕ) (b : TableNumbers) → b.inputs ≤ 4 → (xs : List ℕ) → colours_of t b xs 1 ≡ colour t (table_by t b) xs
-unfolding colours_of
-row_of_one t b e xs = rw (colours_take t b e xs 0 b.outputs) (search rules)
-
-module _ (t : List ℕ) (b : TableNumbers) (xs words : List ℕ) where
-  pub pixel_refused : (why : Refusal) → Tableless t b why → Evaluated t b xs words (Err why) words
-  pixel_refused why k = rw k.is_why (pixel_tableless t b xs words k.none)
-
-  module _ (h : Shape) (table : Judged t b h) (m : length xs ≡ b.inputs) where
-    pub pixel_no_room : length words < b.outputs → Evaluated t b xs words (Err TooFewSlots) words
-    pixel_no_room = pixel_short t b xs words (is_there t b h table) m
-
-    module _ (l : b.outputs ≤ length words) where
-      pub pixel_ready : Row t b h xs 1 words
-      pixel_ready = record { judged = table; coords = omega arith; room = omega arith }
-
-      pub pixel_done : (after : List ℕ) → after ≡ sets words 0 (colours_of t b xs 1) → Evaluated t b xs words (Ok b.outputs) after
-      pixel_done after e =
-          let f : colours_of t b xs 1 ≡ colour t (table_by t b) xs = row_of_one t b (even b (is_even t b h table)).few_inputs xs in
-          pixel_value t b xs words (is_there t b h table) m l after (rw f at e)
 
 -- ---- the answers for a row
 

@@ -2,7 +2,8 @@
 // the bytes of an entry less 1: with one byte, which stands for both, 0, and with two 1.
 //
 // Three or four channels are written out, so that no loop stands around them, and where there are three dimensions or more the size of an entry is a
-// constant, so that the compiler knows it: docs/FIGURES.md has what that is worth.
+// constant, so that the compiler knows it: docs/FIGURES.md has what that is worth. They are inlined, since an axis that is handed to a function goes by
+// memory, which costs a row of three outputs a twentieth and one of four a fifth.
 ghost use Rattle.std.specs.Prelude.{◌≡◌, ◌+◌, ◌*◌, ◌≤◌, ◌<◌, length};
 ghost use Rattle.std.proofs.lemmas.List.Edits.{sets};
 ghost use Rattle.evaluate_meaning.specs.Colour.{sample_at, blend};
@@ -120,6 +121,7 @@ fn three_cubes_by<const HOP: usize>(
 }
 
 // Four channels of these.
+#[inline(always)]
 fn four_cubes_by<const HOP: usize>(
     tag: &[u8],
     at: usize,
@@ -184,6 +186,7 @@ pub(crate) fn three_cubes(
     }
 }
 
+#[inline(always)]
 fn four_cubes(
     tag: &[u8],
     hop: usize,

@@ -219,7 +219,20 @@ fn row<F: Form>(tag: &[u8], b: TableNumbers, h: Shape, xs: &[u16], count: usize,
     }
 }
 
-// The same by the form that suits the table.
+// One pixel by the form that suits the table, and a row.
+fn one(tag: &[u8], b: TableNumbers, h: Shape, xs: &[u16], out: &mut [u16])
+    requires { Spot tag.now b h xs.now 0 out.old 0 }
+    ensures { out.new ≡ sets out.old 0 (colour tag.now (table_by tag.now b) (drop 0 xs.now)) }
+{
+    match (b.inputs, b.outputs) {
+        (1, 3) => Lines::paint(tag, b, h, xs, 0, out, 0),
+        (2, 3) => Planes::paint(tag, b, h, xs, 0, out, 0),
+        (3, 3) => Cubes::paint(tag, b, h, xs, 0, out, 0),
+        (4, 3) => Fours::paint(tag, b, h, xs, 0, out, 0),
+        _ => Tables::paint(tag, b, h, xs, 0, out, 0),
+    }
+}
+
 fn all(tag: &[u8], b: TableNumbers, h: Shape, xs: &[u16], count: usize, out: &mut [u16])
     requires { Row tag.now b h xs.now count out.old }
     ensures { out.new ≡ sets out.old 0 (colours_of tag.now b xs.now count) }
@@ -253,6 +266,7 @@ fn dim(tag: &[u8], at: usize, step: usize, n: usize, k: usize) -> u32
 }
 
 // The shape of a table of numbers that are not odd.
+#[inline(always)]
 fn measure(tag: &[u8], b: TableNumbers) -> Shape
     requires { (odd_numbers b ≡ false) × (b.grid_at.0 < length tag.now) }
     ensures { ShapeOf tag.now b result }
@@ -296,6 +310,7 @@ fn measure(tag: &[u8], b: TableNumbers) -> Shape
 }
 
 // The same of any numbers, refused where they name no table of 1 to 4 inputs in the tag.
+#[inline(always)]
 fn judge(tag: &[u8], b: TableNumbers) -> Result<Shape, Refusal>
     ensures { JudgedAs tag.now b result }
 {
@@ -329,7 +344,7 @@ pub fn evaluate(
     if results.len() < outs {
         return Err(Refusal::TooFewSlots);
     }
-    all(tag, numbers, h, coordinates, 1, results);
+    one(tag, numbers, h, coordinates, results);
     Ok(outs)
 }
 

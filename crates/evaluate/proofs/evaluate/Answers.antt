@@ -3,7 +3,7 @@
 use borrow.Author.Rules.{rules}
 use Rattle.std.proofs.lemmas.Result.{err_from_is_err_and}
 use Rattle.evaluate_meaning.proofs.Answered.{pixel_uneven}
-use Rattle.evaluate.proofs.Rowing.{pixel_refused, pixel_no_room, pixel_ready, pixel_done}
+use Rattle.evaluate.proofs.Judging.{pixel_refused, pixel_no_room, pixel_spot, pixel_done}
 use Rattle.evaluate.proofs.evaluate.Goals as goal
 
 pub returns-in_err-h : goal.returns-in_err-h
@@ -17,8 +17,8 @@ returns-then-coordinates-numbers c = search (rules, pixel_uneven)
 pub returns-then-results-outs : goal.returns-then-results-outs
 returns-then-results-outs c = pixel_no_room _ _ _ _ _ c.in_ok-h.ensures c.if-coordinates-numbers.false c.if-results-outs.true
 
-pub all-requires : goal.all-requires
-all-requires c = pixel_ready _ _ _ _ _ c.in_ok-h.ensures c.if-coordinates-numbers.false c.if-results-outs.false
+pub one-requires : goal.one-requires
+one-requires c = pixel_spot _ _ _ _ _ c.in_ok-h.ensures c.if-coordinates-numbers.false c.if-results-outs.false
 
 pub returns : goal.returns
-returns c = pixel_done _ _ _ _ _ c.in_ok-h.ensures c.if-coordinates-numbers.false c.if-results-outs.false _ c.all.ensures
+returns c = pixel_done _ _ _ _ _ c.in_ok-h.ensures c.if-coordinates-numbers.false c.if-results-outs.false _ c.one.ensures
