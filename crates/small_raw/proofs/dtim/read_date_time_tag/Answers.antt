@@ -13,10 +13,6 @@ pub slice_bounds-bytes_at-end : goal.slice_bounds-bytes_at-end
 unfolding signature_of
 slice_bounds-bytes_at-end c = sym (length-take-le 20 c.args.profile.now (search (rules, covers)))
 
-pub bytes_at-requires : goal.bytes_at-requires
-unfolding signature_of
-bytes_at-requires c = length-take-le 20 c.args.profile.now (search (rules, covers))
-
 pub returns-in-Err : goal.returns-in-Err
 unfolding signature_of
 returns-in-Err c = search (rules, answer_unfound date_numbers absent)
