@@ -156,7 +156,7 @@ pub fn locate(profile: &[u8], entry: Entry, end: InTag) -> Option<Range<usize>>
 {
     let from = entry.0 as usize;
     let size = end.0 as usize;
-    if size <= profile.len() && from <= profile.len() - size {
+    if from <= profile.len() && size <= profile.len() - from {
         Some(from..from + size)
     } else {
         None
