@@ -1,4 +1,5 @@
 // `chad`: read_chad_tag of moxcms, the small reader whose order of checks is its own. A size of 0 is an ordinary size.
+// Profile, entry and size are handed in one by one, as moxcms does and docs/SCOPE.md says.
 #![tactic(auto)]
 
 ghost use Rattle.std.specs.Prelude.{◌≡◌};

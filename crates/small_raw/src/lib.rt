@@ -1,5 +1,6 @@
 // The small readers of moxcms whose types have codes and plain bytes, a module each: `sig `, `dtim` and `cicp`. A size of 0 is an ordinary
 // size.
+// Profile, entry and size are handed in one by one, as moxcms does and docs/SCOPE.md says.
 #![tactic(auto)]
 
 mod cicp;

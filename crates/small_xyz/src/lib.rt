@@ -1,4 +1,5 @@
 // The small readers of moxcms whose types have XYZ numbers, a module each: `meas`, `view` and `XYZ `. A size of 0 is an ordinary size.
+// Profile, entry and size are handed in one by one, as moxcms does and docs/SCOPE.md says.
 #![tactic(auto)]
 
 mod meas;

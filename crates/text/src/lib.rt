@@ -1,4 +1,5 @@
 // Text: read_string_tag of moxcms, for `text`, `desc` and `mluc`. Strings are answered as ranges of the tag, and never decoded.
+// Profile, entry and size are handed in one by one, as moxcms does and docs/SCOPE.md says.
 #![tactic(auto)]
 
 mod cut;
