@@ -242,8 +242,21 @@ pub fn u32_at(s: &[u8], at: InTag) -> u32
     word(s, at, 0)
 }
 
-// The nine numbers of a matrix, each of 32 bits, from `at` on; bytes past the end count as 0.
-pub fn nine_at(s: &[u8], at: InTag) -> [u32; 9]
+// Nine numbers, each of 32 bits, all of whose bytes are there.
+fn whole_nine(s: &[u8], from: usize) -> [u32; 9]
+    requires { from + 36 ≤ length s.now }
+    ensures { result ≡ words_at s.now from 9 }
+{
+    let mut words = [0; 9];
+    for k in 0..9 {
+        let at = from + 4 * k;
+        words[k] = u32::from_be_bytes([s[at], s[at + 1], s[at + 2], s[at + 3]]);
+    }
+    words
+}
+
+// Nine numbers, each of 32 bits, from `at` on; bytes past the end count as 0. One function for both cost a lookup table half as much time again.
+fn cut_nine(s: &[u8], at: InTag) -> [u32; 9]
     ensures { result ≡ words_at s.now at.0 9 }
 {
     let mut words = [0; 9];
@@ -251,6 +264,18 @@ pub fn nine_at(s: &[u8], at: InTag) -> [u32; 9]
         words[i] = word(s, at, 4 * i);
     }
     words
+}
+
+// The nine numbers of a matrix, each of 32 bits, from `at` on; bytes past the end count as 0.
+pub fn nine_at(s: &[u8], at: InTag) -> [u32; 9]
+    ensures { result ≡ words_at s.now at.0 9 }
+{
+    let from = at.0 as usize;
+    if s.len() < from || s.len() - from < 36 {
+        cut_nine(s, at)
+    } else {
+        whole_nine(s, from)
+    }
 }
 
 // The kind that the four bytes at `at` name.

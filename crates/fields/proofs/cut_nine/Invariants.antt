@@ -1,10 +1,10 @@
--- `fields::nine_at`: what is left to store makes of the nine the row of words.
+-- `fields::cut_nine`: what is left to store makes of the nine the row of words.
 -- Assumes nothing.
 use mathlib.Core.Path.{◌≡◌}
 use lib.ListN.{length, drop}
 use lib.Seq.{sets}
 use Rattle.fields.specs.Bytes.{words_at}
-use Rattle.fields.proofs.nine_at.Given as goal
+use Rattle.fields.proofs.cut_nine.Given as goal
 
 abbrev pub invariant-loop-i : goal.invariant-loop-i
 invariant-loop-i l =

@@ -1,10 +1,10 @@
--- `fields::nine_at` meets its contract: what is left to store makes of the nine the row of words.
+-- `fields::cut_nine` meets its contract: what is left to store makes of the nine the row of words.
 -- Assumes nothing.
 use mathlib.Core.Path.{refl}
 use lib.ListN.{length-set}
 use borrow.Author.Rules.{rules}
 use Rattle.fields.proofs.Fills.{words_begin, words_turn, words_end}
-use Rattle.fields.proofs.nine_at.Goals as goal
+use Rattle.fields.proofs.cut_nine.Goals as goal
 
 pub loop-i-init : goal.loop-i-init
 loop-i-init c = (refl, words_begin _ _ 9 _ refl)
