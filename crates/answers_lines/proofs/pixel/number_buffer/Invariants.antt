@@ -1,6 +1,5 @@
 -- `answers_lines::pixel::number_buffer` meets its contract: what is left to store makes of the buffer the row of its numbers.
 -- Assumes nothing.
-use Prim.Native.Nat.{◌-◌, ◌≤◌}
 use mathlib.Core.Path.{◌≡◌}
 use lib.ListN.{length, drop}
 use lib.Seq.{sets}
@@ -8,8 +7,4 @@ use Rattle.answers_meaning.specs.Pixel.{numbered}
 use Rattle.answers_lines.proofs.pixel.number_buffer.Given as goal
 
 abbrev pub invariant-loop-i : goal.invariant-loop-i
-invariant-loop-i l =
-    (l.i ≤ length l.initial.buffer) × (length l.buffer ≡ length l.initial.buffer) × (sets l.buffer l.i (drop l.i (numbered (length l.initial.buffer))) ≡ numbered (length l.initial.buffer))
-
-abbrev pub decreases-loop-i : goal.decreases-loop-i
-decreases-loop-i l = length l.initial.buffer - l.i
+invariant-loop-i l = sets l.buffer l.i (drop l.i (numbered (length l.initial.buffer))) ≡ numbered (length l.initial.buffer)
