@@ -6,7 +6,8 @@ ghost use Rattle.answers_jobs.specs.Stream.{u64_at, Names, head_of, bytes_behind
 
 use fields::InTag;
 
-// A job of `answers`: the number of its reader, where its tag stands, the limits, the words lent, and how long the profile behind it is.
+// A job of `answers`: the number of its reader, where its tag stands, the limits, the words lent, and how long the profile behind it is. The
+// number is any byte: whether it names a reader is asked behind the profile (`tail_of`).
 #[derive(Clone, Copy, Debug, PartialEq, Eq)]
 pub struct StreamJob {
     pub reader: u8,
@@ -109,7 +110,7 @@ pub fn read_head(head: &[u8]) -> Option<StreamJob>
 }
 
 // What a job of `answers` asks for behind its profile: nothing; the entry at a grid index, whose coordinates are so many bytes from byte 1
-// on, and at an output channel; an index of more than sixteen coordinates.
+// on, and at an output channel; an index of more than sixteen coordinates, which `tail_of` keeps apart from none.
 #[derive(Clone, Copy, Debug, PartialEq, Eq)]
 pub enum StreamIndex {
     Nothing,

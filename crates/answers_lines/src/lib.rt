@@ -297,7 +297,7 @@ fn answer_pixel(
 
 // Puts the line of a job at the start of `line`, as far as there is room, and answers where it ends. The job's profile and the bytes
 // behind it are read, and the words are those lent to its reader. A job that names no reader, has too few bytes behind its profile, or a buffer past
-// its bound, has no line: then the answer is 0.
+// its bound, has no line: then the answer is 0, the end of an empty line, as `line_of` has it.
 pub fn answer_job(
     profile: &[u8],
     job: StreamJob,

@@ -7,7 +7,7 @@ ghost use Rattle.export_words.specs.Exported.{without, told, Gave, Stored};
 
 use fields::Refusal;
 
-// The statuses that are no refusal's: of a value, and of an `out` without room.
+// The statuses that are no refusal's, numbers that C has: of a value, and of an `out` without room.
 pub const VALUE: u32 = 0;
 
 pub const NO_ROOM: u32 = 102;
@@ -107,7 +107,7 @@ pub fn word_at(words: &[u64], i: usize) -> u64
     words.get(i).copied().unwrap_or(0)
 }
 
-// The low byte of a word: where the word tells a byte, that byte.
+// The low byte of a word: where the word tells a byte, that byte. `as` may lose nothing, so the rest is taken off first.
 pub fn low_byte(word: u64) -> u8
     ensures { result ≡ word % 256 }
 {

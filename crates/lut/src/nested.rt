@@ -68,9 +68,8 @@ pub(crate) fn write_run(tag: &[u8], run: Run, limit: u64, walk: Walk, slots: &mu
             walk,
             &mut slots[slot..slot + RECORD_WORDS],
         );
-        let consumed = match written {
-            Ok(consumed) => consumed,
-            Err(_) => return,
+        let Ok(consumed) = written else {
+            return;
         };
         next = next_curve(next, consumed);
     }

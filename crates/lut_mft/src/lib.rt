@@ -91,6 +91,7 @@ fn tables_start(tag: &[u8]) -> u32
     }
 }
 
+// Two comparisons: with `contains` of a range the goal did not close.
 fn is_outside(x: u16, low: u16, high: u16) -> bool
     ensures { result ≡ outside low x high }
 {

@@ -35,8 +35,8 @@ slice_bounds-write_curve-start-in-loop-i c = search (rules, slot_there)
 pub slice_bounds-write_curve-end-in-loop-i : goal.slice_bounds-write_curve-end-in-loop-i
 slice_bounds-write_curve-end-in-loop-i c = search (rules, slot_there)
 
-pub returns-in-Err : goal.returns-in-Err
-returns-in-Err c = absurd (search (rules, write_never))
+pub returns-in_default : goal.returns-in_default
+returns-in_default c = absurd (search (rules, write_never))
 
 pub next_curve-next-requires : goal.next_curve-next-requires
 next_curve-next-requires c = search (rules, write_near)
