@@ -7,13 +7,16 @@ use mathlib.Core.Path.{◌≡◌, refl, sym, ap, ◌∙◌}
 use mathlib.Core.List.{List, ◌++◌}
 use lib.ListN.{length, drop}
 use lib.Seq.{sets, sets-eq, length-sets}
-use borrow.Author.Tests.{eq-eqb, ne_eqb, lt-ltb, le-ltb}
+use lib.Dec.{ltb}
+use mathlib.Core.Bool.{Bool, true, false, cond}
+use borrow.Author.Tests.{eq-eqb, ne_eqb, lt-ltb, le-ltb, ltb-false}
 use Rattle.std.specs.Prelude.{Result, Ok, Err}
 use Rattle.fields.proofs.Never.{never}
 use Rattle.fields.specs.Bytes.{u16_at, u32_at}
 use Rattle.fields.proofs.Stores.{sets_append}
+use Rattle.text_meaning.specs.Layout.{header_end, string_end}
 use Rattle.text_mluc.specs.Items.{record_from, fault_from, seen_from}
-use Rattle.text_meaning.specs.Mluc.{PlacedString, Fault, header, string, is, no, whole, stopped, RecordsRead, stops, first, even, record_at, records_from, records_asked, text_record_words, placed_words, words_in}
+use Rattle.text_meaning.specs.Mluc.{PlacedString, Fault, header, string, is, no, whole, stopped, RecordsRead, stops, first, even, localized_at, record_at, records_from, records_asked, text_record_words, placed_words, words_in}
 use Rattle.text_mluc.specs.declared.Fault.{Fault as CodeFault}
 use Rattle.text_mluc.specs.declared.TextRecord.{TextRecord}
 use Rattle.text_meaning.proofs.Shared.{words_length, whole_count}
@@ -50,6 +53,19 @@ unfolding records_from
 records_stop t k n f e = rw e
 
 -- ---- the loop that judges
+
+-- a record that is seen has its header in the tag
+header_inside : (t : List ℕ) (k : ℕ) (r : PlacedString) → record_at t k ≡ is r → header_end k ≤ length t
+unfolding record_at
+header_inside t k r = by (ltb (length t) (header_end k)) refl
+  where
+    by : (b : Bool) → ltb (length t) (header_end k) ≡ b → cond b (no header) (cond (ltb (length t) (string_end t k)) (no string) (is (localized_at t k))) ≡ is r → header_end k ≤ length t
+    by true e h = never cc
+    by false e h = ltb-false (length t) (header_end k) e
+
+-- each turn has a header of 12 bytes behind it, so there are no more turns than the tag has bytes
+pub turn_inside : (t : List ℕ) (k : ℕ) (got : Result TextRecord CodeFault) (r : TextRecord) → seen_from got ≡ record_at t k → got ≡ Ok r → 12 * (k + 1) ≤ length t
+turn_inside t k got r h e = omega (arith, header_inside t k (record_from r) (sym h ∙ ap seen_from e))
 
 pub judge_begins : (t : List ℕ) (n : ℕ) → (records_from t 0 n).end ≡ (records_from t 0 (n - 0)).end
 judge_begins t n = rw sub-zero
