@@ -19,7 +19,7 @@ pub struct StreamJob {
     pub length: u32,
 }
 
-// The readers of `answers`, each under its number in a job: eleven of them on the crate walk, two on the book walk, and at last an entry of a
+// The readers of `answers`, each under its number in a job: ten of them on the crate walk, two on the book walk, and at last an entry of a
 // lookup table and the evaluation.
 #[derive(Clone, Copy, Debug, PartialEq, Eq)]
 pub enum Reader {
