@@ -14,7 +14,7 @@ use borrow.Author.Tests.{lt-ltb, ltb-false, eqb-true, eqb-false, eq-eqb, ne_eqb}
 use Rattle.fields.proofs.Choice.{each}
 use Rattle.fields.specs.Bytes.{u16_at}
 use Rattle.fields.specs.Place.{place_of, counted_size, counted_tag}
-use Rattle.std.specs.declared.ops.Range.{Range}
+use Rattle.fields.specs.declared.Place.{Place}
 use Rattle.fields.proofs.Located.{past, part_is}
 use Rattle.fields.proofs.Never.{never}
 use Rattle.lut_meaning.specs.Lut.{lut_of}
@@ -269,7 +269,7 @@ module _ (job : StreamJob) (p w b : List ℕ) (index : StreamIndex) {r : ℕ} {t
       record { gave = rw (← told.status_is, ne_eqb _ _ n) (no_words r r out refl n); words_are = was_told_slots _ (omega arith) g }
 
   -- a value is of a tag in the profile
-  pub view_lost : (place : Option (Range ℕ)) (end : ℕ) (out : List ℕ) → end ≡ counted_size job.size → place ≡ place_of (length p) job.offset end → place ≡ None → r ≡ 0 → ViewAndWords job p w b index 100 out out w'
+  pub view_lost : (place : Option Place) (end : ℕ) (out : List ℕ) → end ≡ counted_size job.size → place ≡ place_of (length p) job.offset end → place ≡ None → r ≡ 0 → ViewAndWords job p w b index 100 out out w'
   unfolding lut_of
   view_lost place end out c h e z =
       let k : (lut_exported_of job p w Crate).status ≡ 1 = rw (← c, lt-ltb _ _ (past _ _ _ h e)) in

@@ -12,7 +12,7 @@ use lib.Dec.{ltb, eqb}
 use borrow.Author.Tests.{lt-ltb, ltb-false, eq-eqb, ne_eqb}
 use Rattle.fields.specs.Bytes.{u16_at}
 use Rattle.fields.specs.Place.{place_of, counted_size, counted_tag}
-use Rattle.std.specs.declared.ops.Range.{Range}
+use Rattle.fields.specs.declared.Place.{Place}
 use Rattle.fields.proofs.Choice.{each}
 use Rattle.fields.proofs.Located.{past}
 use Rattle.fields.proofs.Never.{never}
@@ -149,7 +149,7 @@ module _ (job : StreamJob) (p w b : List ℕ) (count room : ℕ) {r : ℕ} {tabl
       }
 
   -- a value is of a tag in the profile
-  pub pixel_lost : (place : Option (Range ℕ)) (end : ℕ) (k : List ℕ) → end ≡ counted_size job.size → place ≡ place_of (length p) job.offset end → place ≡ None → r ≡ 0 → LineAndWords (line_to (Some (StreamTail.Pixel count room)) job p w b) k k w' 0
+  pub pixel_lost : (place : Option Place) (end : ℕ) (k : List ℕ) → end ≡ counted_size job.size → place ≡ place_of (length p) job.offset end → place ≡ None → r ≡ 0 → LineAndWords (line_to (Some (StreamTail.Pixel count room)) job p w b) k k w' 0
   unfolding lut_of
   pixel_lost place end k c h e z =
       let s : (lut_exported_of job p w Crate).status ≡ 1 = rw (← c, lt-ltb _ _ (past _ _ _ h e)) in

@@ -25,11 +25,11 @@ use Rattle.fields.specs.Checked.{good, bad}
 use Rattle.fields.specs.Place.{place_of}
 use Rattle.fields.proofs.Located.{inside, past, rest_is, part_is}
 use Rattle.std.specs.Prelude.{Option, Some, None}
-use Rattle.std.specs.declared.ops.Range.{Range}
 use Rattle.curve_meaning.specs.Answer.{Answer, absent, refused, answer_of}
 use Rattle.curve_meaning.specs.declared.Walk.{Walk}
 use Rattle.fields.specs.Tag.{signature_of}
 use Rattle.fields.specs.declared.Kind.TheVariants.{Para}
+use Rattle.fields.specs.declared.Place.{Place}
 use Rattle.curve.specs.Found.{number_of}
 
 -- a function has at most seven parameters, so that 32 bits hold their end
@@ -125,17 +125,17 @@ function_found limit t l h s k m w e z d = simp (le-ltb _ _ l, ← h, s, ← k, 
 
 -- ---- the lone reader
 
-module _ (walk : Walk) (limit : ℕ) (p : List ℕ) (entry size : ℕ) (four : Option (Range ℕ)) (h : four ≡ place_of (length p) entry 4) where
+module _ (walk : Walk) (limit : ℕ) (p : List ℕ) (entry size : ℕ) (four : Option Place) (h : four ≡ place_of (length p) entry 4) where
   pub trc_none : four ≡ None → absent ≡ trc_of walk limit p entry size
   unfolding trc_of
   trc_none e = simp (lt-ltb _ _ (past _ _ _ h e))
 
-  module _ (four_at : Range ℕ) (e : four ≡ Some four_at) (small : Bool) (b : small ≡ leb 1 size && ltb size 12) where
+  module _ (four_at : Place) (e : four ≡ Some four_at) (small : Bool) (b : small ≡ leb 1 size && ltb size 12) where
     pub trc_small : small ≡ true → absent ≡ trc_of walk limit p entry size
     unfolding trc_of
     trc_small y = let i = inside _ _ _ h e in simp (le-ltb _ _ i.fits, ← b, y)
 
-    module _ (y : small ≡ false) (bytes : ℕ) (c : bytes ≡ cond (eqb size 0) (length p - four_at.start) size) (tag : Option (Range ℕ)) (g : tag ≡ place_of (length p) entry bytes) where
+    module _ (y : small ≡ false) (bytes : ℕ) (c : bytes ≡ cond (eqb size 0) (length p - four_at.start) size) (tag : Option Place) (g : tag ≡ place_of (length p) entry bytes) where
       pub trc_past : tag ≡ None → refused 11 ≡ trc_of walk limit p entry size
       unfolding trc_of
       trc_past f = by (eqb size 0) refl
@@ -152,7 +152,7 @@ module _ (walk : Walk) (limit : ℕ) (p : List ℕ) (entry size : ℕ) (four : O
               let l : length p < entry + size = rw q at (past _ _ _ g f) in
               simp (le-ltb _ _ i.fits, ← b, y, lt-ltb _ _ l)
 
-      pub trc_tag : (r : Answer) (at : Range ℕ) → tag ≡ Some at → r ≡ answer_of walk 12 (curve_of limit (take (at.end - at.start) (drop at.start p))) → r ≡ trc_of walk limit p entry size
+      pub trc_tag : (r : Answer) (at : Place) → tag ≡ Some at → r ≡ answer_of walk 12 (curve_of limit (take (at.end - at.start) (drop at.start p))) → r ≡ trc_of walk limit p entry size
       unfolding trc_of
       trc_tag r at f w = by (eqb size 0) refl
         where

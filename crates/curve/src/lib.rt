@@ -254,6 +254,6 @@ pub fn read_trc_tag(
     }
     let bytes = tag_bytes(profile.len() - signature.start, size);
     let tag = fields::locate(profile, entry, InTag(bytes)).ok_or(Refusal::CurveRunsOut)?;
-    let read = read_curve(&profile[tag], TAG_SIZE, limit, walk)?;
+    let read = read_curve(&profile[tag.start..tag.end], TAG_SIZE, limit, walk)?;
     Ok(Some(read))
 }

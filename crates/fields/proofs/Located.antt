@@ -12,11 +12,11 @@ use lib.Dec.{leb}
 use borrow.Author.Tests.{leb-true, leb-false, le-leb, lt-leb}
 use Rattle.fields.proofs.Never.{never}
 use Rattle.std.specs.Prelude.{Option, Some, None}
-use Rattle.std.specs.declared.ops.Range.{Range}
 use Rattle.fields.specs.Place.{place_of, counted_size, counted_tag}
+use Rattle.fields.specs.declared.Place.{Place}
 
 -- from `entry` on, so many bytes
-abbrev pub span : ℕ → ℕ → Range ℕ
+abbrev pub span : ℕ → ℕ → Place
 span entry end = record { start = entry; end = entry + end }
 
 pub place_in : (n entry end : ℕ) → entry + end ≤ n → Some (span entry end) ≡ place_of n entry end
@@ -27,16 +27,16 @@ pub place_past : (n entry end : ℕ) → n < entry + end → None ≡ place_of n
 unfolding place_of
 place_past n entry end h = simp (lt-leb (entry + end) n h)
 
-pub record Inside (n entry end : ℕ) (w : Range ℕ) : Type 0 where
+pub record Inside (n entry end : ℕ) (w : Place) : Type 0 where
   pub from_is : w.start ≡ entry
   pub to_is : w.end ≡ entry + end
   pub fits : entry + end ≤ n
 
-in_by : (n entry end : ℕ) (w : Range ℕ) (t : Bool) → leb (entry + end) n ≡ t → cond t (Some (span entry end)) None ≡ Some w → Inside n entry end w
+in_by : (n entry end : ℕ) (w : Place) (t : Bool) → leb (entry + end) n ≡ t → cond t (Some (span entry end)) None ≡ Some w → Inside n entry end w
 in_by n entry end w true h e = record { from_is = cc; to_is = cc; fits = leb-true _ _ h }
 in_by n entry end w false h e = never cc
 
-pub inside : (n entry end : ℕ) {w : Range ℕ} {r : Option (Range ℕ)} → r ≡ place_of n entry end → r ≡ Some w → Inside n entry end w
+pub inside : (n entry end : ℕ) {w : Place} {r : Option Place} → r ≡ place_of n entry end → r ≡ Some w → Inside n entry end w
 unfolding place_of
 inside n entry end {w} h e = in_by n entry end w (leb (entry + end) n) refl (sym h ∙ e)
 
@@ -44,7 +44,7 @@ past_by : (n entry end : ℕ) (t : Bool) → leb (entry + end) n ≡ t → cond 
 past_by n entry end true h e = never cc
 past_by n entry end false h e = leb-false _ _ h
 
-pub past : (n entry end : ℕ) {r : Option (Range ℕ)} → r ≡ place_of n entry end → r ≡ None → n < entry + end
+pub past : (n entry end : ℕ) {r : Option Place} → r ≡ place_of n entry end → r ≡ None → n < entry + end
 unfolding place_of
 past n entry end h e = past_by n entry end (leb (entry + end) n) refl (sym h ∙ e)
 
@@ -55,7 +55,7 @@ pub part_is : (p : List ℕ) (a size : ℕ) → take ((a + size) - a) (drop a p)
 part_is p a size = rw (add-sub_cancel_left a size)
 
 -- the bounds that a part of the profile asks, from what `locate` ensured and the arm that was taken
-module _ (n entry end : ℕ) {w : Range ℕ} {r : Option (Range ℕ)} (h : r ≡ place_of n entry end) (e : r ≡ Some w) where
+module _ (n entry end : ℕ) {w : Place} {r : Option Place} (h : r ≡ place_of n entry end) (e : r ≡ Some w) where
   pub starts : w.start ≤ w.end
   starts = let i = inside n entry end h e in omega arith
 

@@ -1,6 +1,5 @@
 -- The worked cases of what every reader stands on: numbers in a list of bytes, signs, kinds of tag, places, sizes, and the numbers of the house.
 use Rattle.std.specs.Prelude.{ℕ, ◌≡◌, List, [], ◌∷◌, map, ℤ, pos, negsuc, Option, Some, None}
-use Rattle.std.specs.declared.ops.Range.{Range}
 use Rattle.fields.specs.Bytes.{number, u16_at, u32_at, bytes_at, words_at, signed}
 use Rattle.fields.specs.House.{house_limits}
 use Rattle.fields.specs.Place.{place_of, tag_at, counted_size}
@@ -9,6 +8,7 @@ use Rattle.fields.specs.Tag.{signature_of, kind_of}
 use Rattle.fields.specs.declared.Kind.{Kind}
 use Rattle.fields.specs.declared.Kind.TheVariants.{Curv, Para, Mft1, Mft2, Mab, Mba, Mluc, Desc, Text, Xyz, Sf32, Meas, View, Cicp, Sig, Dtim, Other}
 use Rattle.fields.specs.declared.Limits.{Limits}
+use Rattle.fields.specs.declared.Place.{Place}
 use Rattle.fields.specs.declared.Refusal.{Refusal}
 use Rattle.fields.specs.declared.Refusal.TheVariants.{PastProfile, TagTooShort, OtherLut, GridOverflow, GridZero, GridTooLarge, GridDimension, EntrySize, OtherCurve, TooManyEntries, CurveRunsOut, FunctionType, ZeroDivision, TooFewSlots, BadTable, GridOverLimit, BadChad}
 
@@ -27,7 +27,7 @@ pub data Case : Type 0 where
   -- four letters, and the kind of tag
   names : ℕ → ℕ → ℕ → ℕ → Kind → Case
   -- the length of a profile, an offset and an end, and the place
-  lies : ℕ → ℕ → ℕ → Option (Range ℕ) → Case
+  lies : ℕ → ℕ → ℕ → Option Place → Case
   -- an offset and an end, and the bytes of that tag
   holds : ℕ → ℕ → List ℕ → Case
   -- a size, and what it counts as

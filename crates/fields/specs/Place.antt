@@ -1,10 +1,10 @@
 -- Where a tag lies in its profile.
 use Rattle.std.specs.Prelude.{ℕ, ◌+◌, cond, List, leb, eqb, take, drop, Option, Some, None}
-use Rattle.std.specs.declared.ops.Range.{Range}
 use Rattle.fields.specs.House.{tag_size}
+use Rattle.fields.specs.declared.Place.{Place}
 
 -- of a profile of n bytes: the tag at `entry` up to its offset `end`, if the profile reaches so far
-unfoldable pub place_of : ℕ → ℕ → ℕ → Option (Range ℕ)
+unfoldable pub place_of : ℕ → ℕ → ℕ → Option Place
 place_of n entry end = cond (leb (entry + end) n) (Some record { start = entry; end = entry + end }) None
 
 -- the bytes of that tag

@@ -9,8 +9,6 @@ ghost use Rattle.fields.specs.Place.{place_of, counted_size, counted_tag};
 ghost use Rattle.fields.specs.Refusals.{refusal_number};
 ghost use Rattle.fields.specs.Tag.{kind_of};
 
-use std::ops::Range;
-
 // The shortest tag: a type signature, four reserved bytes and four more. The Rust's TAG_SIZE.
 pub const TAG_SIZE: u32 = 12;
 
@@ -150,14 +148,24 @@ impl From<[u8; 4]> for Kind {
     }
 }
 
-// Where the tag's bytes before `end` lie in the profile, if it reaches so far. This is the only function that takes both kinds of offset.
-pub fn locate(profile: &[u8], entry: Entry, end: InTag) -> Option<Range<usize>>
+// Where the bytes of a tag lie in the profile: from `start`, and up to but not with `end`.
+#[derive(Clone, Copy, Debug, PartialEq, Eq)]
+pub struct Place {
+    pub start: usize,
+    pub end: usize,
+}
+
+// Where the tag's bytes before `end` lie, if the profile reaches so far. This is the only function that takes both kinds of offset.
+pub fn locate(profile: &[u8], entry: Entry, end: InTag) -> Option<Place>
     ensures { result ≡ place_of (length profile.now) entry.0 end.0 }
 {
     let from = entry.0 as usize;
     let size = end.0 as usize;
     if from <= profile.len() && size <= profile.len() - from {
-        Some(from..from + size)
+        Some(Place {
+            start: from,
+            end: from + size,
+        })
     } else {
         None
     }
@@ -184,7 +192,7 @@ pub fn counted_tag<'a>(profile: &'a [u8], entry: Entry, size: u32) -> Option<Tag
 {
     let place = locate(profile, entry, InTag(counted_size(size) as u64))?;
     Some(Tag {
-        bytes: &profile[place],
+        bytes: &profile[place.start..place.end],
     })
 }
 

@@ -15,9 +15,9 @@ use Rattle.fields.specs.Place.{place_of, counted_size, counted_tag}
 use Rattle.fields.specs.Refusals.{refusal_number}
 use Rattle.fields.specs.Tag.{signature_of}
 use Rattle.fields.specs.declared.Kind.TheVariants.{Mab, Mba}
+use Rattle.fields.specs.declared.Place.{Place}
 use Rattle.std.specs.Prelude.{Option, Some, None, Result, Ok, Err}
 use Rattle.std.specs.Result.{IsErrAnd}
-use Rattle.std.specs.declared.ops.Range.{Range}
 use Rattle.std.proofs.lemmas.Result.{err_from_is_err_and}
 use Rattle.fields.specs.declared.Refusal.{Refusal}
 use Rattle.fields.proofs.Located.{inside, past, part_is}
@@ -216,12 +216,12 @@ module _ (walk : Walk) (limit points : ℕ) (t s : List ℕ) (b : Bool) (h : b �
 
 -- ---- the tag in its profile
 
-module _ (walk : Walk) (limit points : ℕ) (p s : List ℕ) (entry size end : ℕ) (n : end ≡ counted_size size) (place : Option (Range ℕ)) (h : place ≡ place_of (length p) entry end) (r : Result (Option Lut) Refusal) where
+module _ (walk : Walk) (limit points : ℕ) (p s : List ℕ) (entry size end : ℕ) (n : end ≡ counted_size size) (place : Option Place) (h : place ≡ place_of (length p) entry end) (r : Result (Option Lut) Refusal) where
   pub lut_past : place ≡ None → in_numbers r ≡ refuse 1 → AnswerAndSlots walk limit (counted_tag p entry size) (lut_of walk limit points p entry size (length s)) r s s
   unfolding lut_of
   lut_past e g = refusing walk limit _ s _ r 1 (rw (← n, lt-ltb _ _ (past _ _ _ h e))) g
 
-  module _ (w : Range ℕ) (e : place ≡ Some w) where
+  module _ (w : Place) (e : place ≡ Some w) where
     pub lut_short : end < shortest → in_numbers r ≡ refuse 2 → AnswerAndSlots walk limit (counted_tag p entry size) (lut_of walk limit points p entry size (length s)) r s s
     unfolding lut_of
     lut_short l g = let i = inside _ _ _ h e in refusing walk limit _ s _ r 2 (rw (← n, le-ltb _ _ i.fits, lt-ltb _ _ l)) g

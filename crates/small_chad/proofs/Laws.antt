@@ -6,11 +6,11 @@ use mathlib.Core.List.{List}
 use lib.ListN.{length, take, drop}
 use borrow.Author.Tests.{eq-eqb, ne_eqb, lt-ltb, le-ltb}
 use Rattle.std.specs.Prelude.{Option, Some, None}
-use Rattle.std.specs.declared.ops.Range.{Range}
 use Rattle.fields.specs.Bytes.{u32_at}
 use Rattle.fields.specs.Place.{place_of}
 use Rattle.fields.specs.Tag.{signature_of}
 use Rattle.fields.specs.declared.Kind.TheVariants.{Sf32}
+use Rattle.fields.specs.declared.Place.{Place}
 use Rattle.fields.proofs.Located.{inside, past, part_is, begins, starts, ends}
 use Rattle.small_meaning.specs.Answer.{Answer, value, absent, refused}
 use Rattle.small_meaning.specs.Layout.{nine_numbers}
@@ -30,17 +30,17 @@ module _ (t : List ℕ) (w : ℕ) (h : w ≡ u32_at t 0) where
     unfolding chad_matrix_of
     matrix_value ws e n = simp (← h, eq-eqb _ _ s, eq-eqb _ _ e, n)
 
-module _ (p : List ℕ) (entry size : ℕ) (place : Option (Range ℕ)) (h : place ≡ place_of (length p) entry size) where
+module _ (p : List ℕ) (entry size : ℕ) (place : Option Place) (h : place ≡ place_of (length p) entry size) where
   pub chad_past : place ≡ None → refused 1 ≡ chad_of p entry size
   unfolding chad_of
   chad_past e = simp (lt-ltb _ _ (past _ _ _ h e))
 
-  module _ (w : Range ℕ) (e : place ≡ Some w) (head : Option (Range ℕ)) (g : head ≡ place_of (length p) entry 8) where
+  module _ (w : Place) (e : place ≡ Some w) (head : Option Place) (g : head ≡ place_of (length p) entry 8) where
     pub chad_head : head ≡ None → refused 1 ≡ chad_of p entry size
     unfolding chad_of
     chad_head f = simp (le-ltb _ _ (inside _ _ _ h e).fits, lt-ltb _ _ (past _ _ _ g f))
 
-    module _ (v : Range ℕ) (f : head ≡ Some v) where
+    module _ (v : Place) (f : head ≡ Some v) where
       pub chad_short : size < 8 → absent ≡ chad_of p entry size
       unfolding chad_of
       chad_short l = simp (le-ltb _ _ (inside _ _ _ h e).fits, le-ltb _ _ (inside _ _ _ g f).fits, lt-ltb _ _ l)

@@ -8,12 +8,12 @@ use mathlib.Core.List.{List}
 use lib.Dec.{ltb, eqb}
 use lib.ListN.{length}
 use Rattle.std.specs.Prelude.{Result}
-use Rattle.std.specs.declared.ops.Range.{Range}
 use Rattle.fields.proofs.Never.{never}
 use Rattle.fields.specs.Bytes.{u32_at}
 use Rattle.fields.specs.Place.{tag_at}
 use Rattle.fields.specs.Tag.{signature_of}
 use Rattle.fields.specs.declared.Kind.TheVariants.{Sf32}
+use Rattle.fields.specs.declared.Place.{Place}
 use Rattle.fields.proofs.Choice.{each}
 use Rattle.small_meaning.specs.Answer.{Answer, value, default, absent, refused}
 use Rattle.small_meaning.specs.Layout.{nine_numbers}
@@ -52,7 +52,7 @@ module _ (Q : ℕ → Type 0) (one : Q 1) (two : Q 2) (seventeen : Q 17) where
   standard n e = never cc
 
   -- the order that the readers share
-  ordered : (f : Result (Range ℕ) Unfound) {short other this : Answer} → Only short → Only other → Only this → Only (answer_to f short other this)
+  ordered : (f : Result Place Unfound) {short other this : Answer} → Only short → Only other → Only this → Only (answer_to f short other this)
   ordered f a b c = order_each Only f a (only 1 one) b c
 
   pub small_refuses : (s : Small) (p : List ℕ) (entry size : ℕ) → Only (small_of s p entry size)

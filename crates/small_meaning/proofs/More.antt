@@ -9,10 +9,10 @@ use lib.Dec.{ltb}
 use lib.ListN.{length}
 use borrow.Author.Tests.{ltb-false}
 use Rattle.std.specs.Prelude.{Result, Ok, Err}
-use Rattle.std.specs.declared.ops.Range.{Range}
 use Rattle.fields.specs.Place.{tag_at}
 use Rattle.fields.specs.Tag.{signature_of}
 use Rattle.fields.specs.declared.Kind.TheVariants.{Dtim}
+use Rattle.fields.specs.declared.Place.{Place}
 use Rattle.fields.proofs.Append.{longer, part_append}
 use Rattle.fields.proofs.Grow.{Grows, choose, passes}
 use Rattle.small_meaning.specs.Answer.{Answer, value, absent, refused}
@@ -33,7 +33,7 @@ module _ (p q : List ℕ) (entry size : ℕ) where
   found_more : (least end signature : ℕ) → Grows (λ f. f ≡ Err Unfound.Past) (found_of least end signature p entry size) (found_of least end signature (p ++ q) entry size)
   unfolding found_of
   found_more least end signature =
-      let L : Result (Range ℕ) Unfound → Type 0 = λ f. f ≡ Err Unfound.Past in
+      let L : Result Place Unfound → Type 0 = λ f. f ≡ Err Unfound.Past in
       choose L (ltb size least) (λ _. inr refl)
       (λ _. passes L (ltb (length p) (entry + end)) (ltb (length (p ++ q)) (entry + end)) (longer p q (entry + end)) refl
       (λ e. rw (part_append p q entry end (ltb-false (length p) (entry + end) e)) (inr refl)))
@@ -43,7 +43,7 @@ module _ (p q : List ℕ) (entry size : ℕ) where
   unfolding answer_to
   order_more least end signature short other this this' g = by (found_more least end signature)
     where
-      same : (f : Result (Range ℕ) Unfound) → found_of least end signature p entry size ≡ f → Grows Past (answer_to f short other this) (answer_to f short other this')
+      same : (f : Result Place Unfound) → found_of least end signature p entry size ≡ f → Grows Past (answer_to f short other this) (answer_to f short other this')
       same (Err Unfound.Short) h = inr refl
       same (Err Unfound.Past) h = inr refl
       same (Err Unfound.Other) h = inr refl

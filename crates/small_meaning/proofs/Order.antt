@@ -8,10 +8,10 @@ use lib.Dec.{ltb, eqb}
 use lib.ListN.{length, take, drop}
 use borrow.Author.Tests.{eq-eqb, ne_eqb, lt-ltb, le-ltb, ltb-false, eqb-true}
 use Rattle.std.specs.Prelude.{Option, Some, None, Result, Ok, Err}
-use Rattle.std.specs.declared.ops.Range.{Range}
 use Rattle.fields.proofs.Never.{never}
 use Rattle.fields.specs.Bytes.{u32_at}
 use Rattle.fields.specs.Place.{place_of, tag_at}
+use Rattle.fields.specs.declared.Place.{Place}
 use Rattle.fields.specs.declared.Refusal.{Refusal}
 use Rattle.fields.proofs.Choice.{each}
 use Rattle.fields.proofs.Located.{inside, past, part_is, begins, starts as located_starts, ends as located_ends}
@@ -20,7 +20,7 @@ use Rattle.small_meaning.specs.Order.{found_of, answer_to, unfound_result}
 use Rattle.small_meaning.specs.declared.Unfound.{Unfound}
 
 -- what a tag that is found has
-pub record Tagged (least end signature : ℕ) (p : List ℕ) (entry size : ℕ) (w : Range ℕ) : Type 0 where
+pub record Tagged (least end signature : ℕ) (p : List ℕ) (entry size : ℕ) (w : Place) : Type 0 where
   pub long : least ≤ size
   pub fits : entry + end ≤ length p
   pub typed : u32_at (tag_at p entry end) 0 ≡ signature
@@ -34,12 +34,12 @@ module _ (least end signature : ℕ) (p : List ℕ) (entry size : ℕ) where
   unfolding found_of
   found_short l = simp (lt-ltb _ _ l)
 
-  module _ (place : Option (Range ℕ)) (h : place ≡ place_of (length p) entry end) (l : least ≤ size) where
+  module _ (place : Option Place) (h : place ≡ place_of (length p) entry end) (l : least ≤ size) where
     pub found_past : place ≡ None → Err Unfound.Past ≡ found_of least end signature p entry size
     unfolding found_of
     found_past e = simp (le-ltb _ _ l, lt-ltb _ _ (past _ _ _ h e))
 
-    module _ (w : Range ℕ) (type : ℕ) (e : place ≡ Some w) (k : type ≡ u32_at (take (w.end - w.start) (drop w.start p)) 0) where
+    module _ (w : Place) (type : ℕ) (e : place ≡ Some w) (k : type ≡ u32_at (take (w.end - w.start) (drop w.start p)) 0) where
       pub found_tag : type ≡ signature → Ok w ≡ found_of least end signature p entry size
       unfolding found_of
       found_tag s =
@@ -57,17 +57,17 @@ module _ (least end signature : ℕ) (p : List ℕ) (entry size : ℕ) where
 
   -- ---- a tag that is found
 
-  pub tagged : {w : Range ℕ} → found_of least end signature p entry size ≡ Ok w → Tagged least end signature p entry size w
+  pub tagged : {w : Place} → found_of least end signature p entry size ≡ Ok w → Tagged least end signature p entry size w
   unfolding found_of
   tagged {w} =
-      let P : Result (Range ℕ) Unfound → Type 0 = λ f. f ≡ Ok w → Tagged least end signature p entry size w in
+      let P : Result Place Unfound → Type 0 = λ f. f ≡ Ok w → Tagged least end signature p entry size w in
       each P (ltb size least) _ _ (λ _ e. never cc)
       (λ l. each P (ltb (length p) (entry + end)) _ _ (λ _ e. never cc)
       (λ f. each P (eqb (u32_at (tag_at p entry end) 0) signature) _ _
       (λ t e. record { long = ltb-false _ _ l; fits = ltb-false _ _ f; typed = eqb-true _ _ t; from_is = cc; to_is = cc })
       (λ _ e. never cc)))
 
-  module _ {f : Result (Range ℕ) Unfound} (h : f ≡ found_of least end signature p entry size) {w : Range ℕ} (e : f ≡ Ok w) where
+  module _ {f : Result Place Unfound} (h : f ≡ found_of least end signature p entry size) {w : Place} (e : f ≡ Ok w) where
     -- the bounds that its bytes ask of the profile
     pub starts : w.start ≤ w.end
     starts = let t = tagged (sym h ∙ e) in omega arith
@@ -80,12 +80,12 @@ module _ (least end signature : ℕ) (p : List ℕ) (entry size : ℕ) where
     found_part = let t = tagged (sym h ∙ e) in rw (t.from_is, t.to_is, part_is p entry end)
 
 -- a tag that is found whole makes the profile as long as the least size
-pub covers : (least signature : ℕ) (p : List ℕ) (entry size : ℕ) {f : Result (Range ℕ) Unfound} {w : Range ℕ} → f ≡ found_of least size signature p entry size → f ≡ Ok w → least ≤ length p
+pub covers : (least signature : ℕ) (p : List ℕ) (entry size : ℕ) {f : Result Place Unfound} {w : Place} → f ≡ found_of least size signature p entry size → f ≡ Ok w → least ≤ length p
 covers least signature p entry size h e = let t = tagged least size signature p entry size (sym h ∙ e) in omega arith
 
 -- ---- the ways out of a reader
 
-module _ (short other this : Answer) (f g : Result (Range ℕ) Unfound) (h : f ≡ g) where
+module _ (short other this : Answer) (f g : Result Place Unfound) (h : f ≡ g) where
   pub answer_short : f ≡ Err Unfound.Short → short ≡ answer_to g short other this
   unfolding answer_to
   answer_short e = simp (← h, e)
@@ -98,12 +98,12 @@ module _ (short other this : Answer) (f g : Result (Range ℕ) Unfound) (h : f �
   unfolding answer_to
   answer_other e = simp (← h, e)
 
-  pub answer_this : (a : Answer) (w : Range ℕ) → f ≡ Ok w → a ≡ this → a ≡ answer_to g short other this
+  pub answer_this : (a : Answer) (w : Place) → f ≡ Ok w → a ≡ this → a ≡ answer_to g short other this
   unfolding answer_to
   answer_this a w e s = simp (← h, e) s
 
 -- a tag that is not found is answered alike by most readers
-pub answer_unfound : {A : Type 0} (numbers : A → List ℕ) (none this : Answer) (f g : Result (Range ℕ) Unfound) → f ≡ g → (why : Unfound) → f ≡ Err why → (r : Result (Option A) Refusal) → r ≡ unfound_result why → answer_in numbers none r ≡ answer_to g none none this
+pub answer_unfound : {A : Type 0} (numbers : A → List ℕ) (none this : Answer) (f g : Result Place Unfound) → f ≡ g → (why : Unfound) → f ≡ Err why → (r : Result (Option A) Refusal) → r ≡ unfound_result why → answer_in numbers none r ≡ answer_to g none none this
 unfolding answer_to
 answer_unfound numbers none this f g h why e r u = simp (← h, e, u) (by why)
   where
@@ -113,12 +113,12 @@ answer_unfound numbers none this f g h why e r u = simp (← h, e, u) (by why)
     by Unfound.Other = refl
 
 -- the fields of a tag that is found
-pub answer_fields : (fields : List ℕ → List ℕ) (short other : Answer) (least end signature : ℕ) (p : List ℕ) (entry size : ℕ) (f : Result (Range ℕ) Unfound) (w : Range ℕ) (ws : List ℕ) → f ≡ found_of least end signature p entry size → f ≡ Ok w → ws ≡ fields (take (w.end - w.start) (drop w.start p)) → value ws ≡ answer_to (found_of least end signature p entry size) short other (value (fields (tag_at p entry end)))
+pub answer_fields : (fields : List ℕ → List ℕ) (short other : Answer) (least end signature : ℕ) (p : List ℕ) (entry size : ℕ) (f : Result Place Unfound) (w : Place) (ws : List ℕ) → f ≡ found_of least end signature p entry size → f ≡ Ok w → ws ≡ fields (take (w.end - w.start) (drop w.start p)) → value ws ≡ answer_to (found_of least end signature p entry size) short other (value (fields (tag_at p entry end)))
 answer_fields fields short other least end signature p entry size f w ws h e m =
     answer_this short other _ f _ h (value ws) w e (ap value (m ∙ ap fields (found_part least end signature p entry size h e)))
 
 -- what holds of every answer that a reader can give holds of the one that it gives
-pub order_each : (P : Answer → Type 0) (f : Result (Range ℕ) Unfound) {short other this : Answer} → P short → P (refused 1) → P other → P this → P (answer_to f short other this)
+pub order_each : (P : Answer → Type 0) (f : Result Place Unfound) {short other this : Answer} → P short → P (refused 1) → P other → P this → P (answer_to f short other this)
 unfolding answer_to
 order_each P (Err Unfound.Short) a b c d = a
 order_each P (Err Unfound.Past) a b c d = b
@@ -150,7 +150,7 @@ pub met : (least end signature : ℕ) (p : List ℕ) (entry size : ℕ) (short o
 unfolding answer_to
 met least end signature p entry size short other this ws s o = by (found_of least end signature p entry size) refl
   where
-    by : (f : Result (Range ℕ) Unfound) → found_of least end signature p entry size ≡ f → answer_to f short other this ≡ value ws → Met least end signature p entry size this ws
+    by : (f : Result Place Unfound) → found_of least end signature p entry size ≡ f → answer_to f short other this ≡ value ws → Met least end signature p entry size this ws
     by (Err Unfound.Short) h v = absurd (s ws v)
     by (Err Unfound.Past) h v = absurd (no_refusal 1 ws v)
     by (Err Unfound.Other) h v = absurd (o ws v)

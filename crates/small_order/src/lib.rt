@@ -4,9 +4,8 @@
 ghost use Rattle.std.specs.Prelude.{◌≡◌};
 ghost use Rattle.small_meaning.specs.Order.{found_of, unfound_result};
 
-use fields::{Entry, InTag, Refusal};
+use fields::{Entry, InTag, Place, Refusal};
 use small_meaning::Unfound;
-use std::ops::Range;
 
 // Every tag begins with its signature.
 const SIGNATURE: u64 = 0;
@@ -21,7 +20,7 @@ pub fn find(
     least: u32,
     end: u32,
     signature: u32,
-) -> Result<Range<usize>, Unfound>
+) -> Result<Place, Unfound>
     ensures { result ≡ found_of least end signature profile.now entry.0 size }
 {
     if size < least {

@@ -50,7 +50,7 @@ pub fn read_cicp_tag(profile: &[u8], entry: Entry, size: u32) -> Result<Option<C
     ensures { cicp_in_numbers result ≡ cicp_of profile.now entry.0 size }
 {
     match small_order::find(profile, entry, size, TAG_SIZE, size, Kind::CICP) {
-        Ok(place) => Ok(Some(codes_at(&profile[place]))),
+        Ok(place) => Ok(Some(codes_at(&profile[place.start..place.end]))),
         Err(why) => small_order::unfound(why),
     }
 }

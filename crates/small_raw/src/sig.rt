@@ -18,7 +18,7 @@ pub fn read_tech_tag(profile: &[u8], entry: Entry, size: u32) -> Result<Option<u
     ensures { sig_in_numbers result ≡ sig_of profile.now entry.0 size }
 {
     match small_order::find(profile, entry, size, TAG_SIZE, size, Kind::SIG) {
-        Ok(place) => Ok(Some(fields::u32_at(&profile[place], InTag(VALUE)))),
+        Ok(place) => Ok(Some(fields::u32_at(&profile[place.start..place.end], InTag(VALUE)))),
         Err(Unfound::Short) => Err(Refusal::TagTooShort),
         Err(Unfound::Past) => Err(Refusal::PastProfile),
         Err(Unfound::Other) => Ok(None),

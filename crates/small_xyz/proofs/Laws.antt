@@ -8,9 +8,9 @@ use mathlib.Core.List.{List, [], ◌∷◌}
 use lib.ListN.{length, take, drop}
 use borrow.Author.Tests.{lt-ltb, le-ltb}
 use Rattle.std.specs.Prelude.{Option, Some, None}
-use Rattle.std.specs.declared.ops.Range.{Range}
 use Rattle.fields.specs.Bytes.{u32_at, words_at}
 use Rattle.fields.specs.Place.{place_of}
+use Rattle.fields.specs.declared.Place.{Place}
 use Rattle.fields.proofs.Located.{inside, past, part_is, begins, starts, ends}
 use Rattle.small_meaning.specs.Answer.{value, refused}
 use Rattle.small_meaning.specs.Layout.{measurement, conditions, first_xyz}
@@ -34,12 +34,12 @@ module _ (t : List ℕ) where
 
 -- ---- `meas`
 
-module _ (p : List ℕ) (entry : ℕ) (place : Option (Range ℕ)) (h : place ≡ place_of (length p) entry 36) where
+module _ (p : List ℕ) (entry : ℕ) (place : Option Place) (h : place ≡ place_of (length p) entry 36) where
   pub window_past : place ≡ None → refused 1 ≡ window_of p entry
   unfolding window_of
   window_past e = simp (lt-ltb _ _ (past _ _ _ h e))
 
-  pub window_value : (ws : List ℕ) (w : Range ℕ) → place ≡ Some w → ws ≡ measurement (take (w.end - w.start) (drop w.start p)) → value ws ≡ window_of p entry
+  pub window_value : (ws : List ℕ) (w : Place) → place ≡ Some w → ws ≡ measurement (take (w.end - w.start) (drop w.start p)) → value ws ≡ window_of p entry
   unfolding window_of
   window_value ws w e m =
       let i = inside _ _ _ h e in

@@ -56,7 +56,7 @@ pub fn read_meas_tag(
             let Some(place) = fields::locate(profile, entry, InTag(END)) else {
                 return Err(Refusal::PastProfile);
             };
-            Ok(Some(measurement_at(&profile[place])))
+            Ok(Some(measurement_at(&profile[place.start..place.end])))
         }
         Err(why) => small_order::unfound(why),
     }

@@ -43,7 +43,7 @@ pub fn read_viewing_conditions(
     ensures { view_in_numbers result ≡ view_of profile.now entry.0 size }
 {
     match small_order::find(profile, entry, size, END, END, Kind::VIEW) {
-        Ok(place) => Ok(Some(conditions_at(&profile[place]))),
+        Ok(place) => Ok(Some(conditions_at(&profile[place.start..place.end]))),
         Err(why) => small_order::unfound(why),
     }
 }

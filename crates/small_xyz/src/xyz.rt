@@ -34,7 +34,7 @@ pub fn read_xyz_tag(profile: &[u8], entry: Entry, size: u32) -> Result<Option<Xy
 {
     match small_order::find(profile, entry, size, TAG_SIZE, size, Kind::XYZ) {
         Ok(place) => {
-            let tag = &profile[place];
+            let tag = &profile[place.start..place.end];
             if tag.len() < FIRST_END {
                 return Err(Refusal::TagTooShort);
             }
