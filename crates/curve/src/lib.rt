@@ -194,9 +194,10 @@ pub fn read_curve(bytes: &[u8], start: u32, limit: u64, walk: Walk) -> Result<Cu
     ensures { read_in_numbers result ≡ answer_of walk start (curve_of limit bytes.now) }
 {
     let found = find_curve(bytes, limit)?;
+    let consumed = found.step(walk);
     Ok(CurveRead {
         curve: found.record(start),
-        consumed: found.step(walk),
+        consumed,
     })
 }
 
