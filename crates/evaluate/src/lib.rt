@@ -336,10 +336,10 @@ pub fn evaluate(
 ) -> Result<usize, Refusal>
     ensures { Evaluated tag.now numbers coordinates.now results.old result results.new }
 {
-    let h = judge(tag, numbers)?;
     if coordinates.len() != numbers.inputs as usize {
         return Err(Refusal::NoColourTable);
     }
+    let h = judge(tag, numbers)?;
     let outs = numbers.outputs as usize;
     if results.len() < outs {
         return Err(Refusal::TooFewSlots);

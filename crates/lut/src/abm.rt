@@ -163,6 +163,7 @@ fn judge_runs(tag: &[u8], runs: Runs, limit: u64, walk: Walk) -> Result<(), Refu
 }
 
 // Writes the records of the runs, which were judged good.
+#[inline(always)]
 fn record_runs(tag: &[u8], runs: Runs, limit: u64, walk: Walk, slots: &mut [u32])
     requires { (length tag.now < 2 ^ 32) × RunsOf tag.now runs × RunsWhole walk limit tag.now × ((runs.a.curves + runs.m.curves + runs.b.curves) * record_words ≤ length slots.old) }
     ensures { slots.new ≡ records_of (curves_of walk limit tag.now) ++ drop ((runs.a.curves + runs.m.curves + runs.b.curves) * record_words) slots.old }
@@ -217,6 +218,7 @@ fn fill_bytes(tag: &[u8], at: InTag, out: &mut [u8])
 }
 
 // The matrix; one that is not there is the identity.
+#[inline(always)]
 fn matrix(tag: &[u8]) -> [u32; 9]
     ensures { result ≡ matrix_of tag.now }
 {
@@ -227,6 +229,7 @@ fn matrix(tag: &[u8]) -> [u32; 9]
     fields::nine_at(tag, InTag(u64::from(at)))
 }
 
+#[inline(always)]
 fn bias(tag: &[u8]) -> [u32; 3]
     ensures { result ≡ bias_of tag.now }
 {
@@ -254,7 +257,9 @@ fn grid(tag: &[u8]) -> [u8; 16]
     bytes
 }
 
-// What a good tag says, with its runs and its colour table.
+// What a good tag says, with its runs and its colour table. It is inlined, with the matrix and the bias: else each byte is sought past the tag's end, and each
+// number is stored and read back at once, by which a tag of curves B alone took half as much time again.
+#[inline(always)]
 fn value(tag: &[u8], runs: Runs, table: ColourTable) -> Abm
     requires { RunsOf tag.now runs × TableGood tag.now table }
     ensures { in_numbers (Ok (Some (Lut.Abm result))) ≡ value_of tag.now }
