@@ -206,7 +206,8 @@ pub fn house_limits() -> Limits
     }
 }
 
-// The byte `k` behind `at`, and 0 past the end.
+// The byte `k` behind `at`, and 0 past the end. It is inlined, and so are the numbers of 32 bits: where a reader knows the length, no test is left.
+#[inline(always)]
 fn byte(s: &[u8], at: InTag, k: usize) -> u8
     ensures { result ≡ get_or s.now (at.0 + k) 0 }
 {
@@ -231,6 +232,7 @@ pub fn u16_at(s: &[u8], at: InTag) -> u16
 }
 
 // The big-endian 32-bit number `k` bytes behind `at`; bytes past the end count as 0.
+#[inline(always)]
 fn word(s: &[u8], at: InTag, k: usize) -> u32
     requires { k ≤ 32 }
     ensures { result ≡ u32_at s.now (at.0 + k) }
@@ -244,6 +246,7 @@ fn word(s: &[u8], at: InTag, k: usize) -> u32
 }
 
 // The big-endian 32-bit number at `at`; bytes past the end count as 0.
+#[inline(always)]
 pub fn u32_at(s: &[u8], at: InTag) -> u32
     ensures { result ≡ u32_at s.now at.0 }
 {

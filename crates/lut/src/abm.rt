@@ -61,6 +61,7 @@ struct Runs {
 }
 
 // Whether the tag leads towards the connection space.
+#[inline(always)]
 fn to_pcs(tag: &[u8]) -> bool
     ensures { result ≡ to_pcs_of tag.now }
 {
