@@ -23,9 +23,8 @@ use Rattle.answers_jobs.specs.Stream.{bytes_behind, pixel_in, index_in, tail_of}
 use Rattle.answers_jobs.specs.declared.StreamTail.{StreamTail}
 use Rattle.answers_lines.specs.View.{ViewAndWords}
 use Rattle.fields.proofs.Stores.{front, fill_begins, fill_turns, fill_ends}
-use Rattle.lines.specs.Text.{Wrote, WroteNumbers, number, numbers, row_from, word_text}
+use Rattle.lines.specs.Text.{Wrote, number, numbers, row_from, word_text}
 use Rattle.lines.proofs.Writing.{joined, nothing}
-use Rattle.lines.proofs.Laws.{wrote_numbers}
 use Rattle.curve_meaning.specs.declared.Walk.TheVariants.{Crate, Book}
 use Rattle.small_meaning.specs.Small.{chad_of, sig_of, date_of, meas_of, view_of, xyz_of, cicp_of}
 use Rattle.text_meaning.specs.Text.{string_of, slots_after as Text·slotsAfter}
@@ -138,9 +137,9 @@ module _ (named : Bool) (l : Layout) (first : ℕ) (ws : List ℕ) {k o : List �
   value_plain e v = rw e v
 
 module _ (shown : Bool) (ws : List ℕ) {k m o : List ℕ} {at mid end : ℕ} where
-  pub lent_shown : shown ≡ true → Wrote k m at mid (0x20 ∷ 0x7c ∷ []) → WroteNumbers (λ (x y : ℕ). y ≡ x) m o mid end ws → Wrote k o at end (cond shown (lent_text ws) [])
+  pub lent_shown : shown ≡ true → Wrote k m at mid (0x20 ∷ 0x7c ∷ []) → Wrote m o mid end (numbers ws) → Wrote k o at end (cond shown (lent_text ws) [])
   unfolding lent_text
-  lent_shown e u v = rw e (joined u (wrote_numbers v))
+  lent_shown e u v = rw e (joined u v)
 
 pub lent_hidden : (shown : Bool) (ws k : List ℕ) (at : ℕ) → shown ≡ false → Wrote k k at at (cond shown (lent_text ws) [])
 lent_hidden shown ws k at e = rw e (nothing k at)

@@ -22,9 +22,8 @@ use Rattle.lut_meaning.specs.Lut.{lut_of}
 use Rattle.lut_view_meaning.specs.declared.TableNumbers.{TableNumbers}
 use Rattle.evaluate_meaning.specs.Answer.{Answer}
 use Rattle.evaluate_meaning.specs.Evaluate.{no_table, pixel_answer, pixel_after}
-use Rattle.lines.specs.Text.{Wrote, WroteNumbers, number, numbers}
+use Rattle.lines.specs.Text.{Wrote, number, numbers}
 use Rattle.lines.proofs.Writing.{joined}
-use Rattle.lines.proofs.Laws.{wrote_numbers}
 use Rattle.export_words.specs.Exported.{only, always, Gave, GaveWith}
 use Rattle.export_words.proofs.Telling.{was_told as was-told-words, was_told_slots}
 use Rattle.export_lut.specs.Layout.{lut_layout, abm_layout, entry_layout, numbers_in}
@@ -56,12 +55,12 @@ module _ (n : ℕ) (l : List ℕ) (e : length l ≡ n) where
 
 -- ---- the pieces of a text
 
-pub results_put : (bs : List ℕ) (n : ℕ) {k l m o : List ℕ} {i j end : ℕ} → Wrote k l 0 i value_word → Wrote l m i j (number 0x20 n) → WroteNumbers (λ (x y : ℕ). y ≡ x) m o j end (take n bs) → Wrote k o 0 end (value_word ++ number 0x20 n ++ numbers (take n bs))
-results_put bs n u v w = joined u (joined v (wrote_numbers w))
+pub results_put : (bs : List ℕ) (n : ℕ) {k l m o : List ℕ} {i j end : ℕ} → Wrote k l 0 i value_word → Wrote l m i j (number 0x20 n) → Wrote m o j end (numbers (take n bs)) → Wrote k o 0 end (value_word ++ number 0x20 n ++ numbers (take n bs))
+results_put bs n u v w = joined u (joined v w)
 
-pub buffer_put : (bs : List ℕ) {k l m : List ℕ} {at i end : ℕ} → Wrote k l at i (0x20 ∷ 0x7c ∷ []) → WroteNumbers (λ (x y : ℕ). y ≡ x) l m i end bs → Wrote k m at end (lent_text bs)
+pub buffer_put : (bs : List ℕ) {k l m : List ℕ} {at i end : ℕ} → Wrote k l at i (0x20 ∷ 0x7c ∷ []) → Wrote l m i end (numbers bs) → Wrote k m at end (lent_text bs)
 unfolding lent_text
-buffer_put bs u v = joined u (wrote_numbers v)
+buffer_put bs u v = joined u v
 
 -- ---- by the status of the evaluation
 

@@ -23,7 +23,7 @@ fn put_results(line: &mut [u8], count: usize, buffer: &[u16]) -> usize
 {
     let word = lines::put(line, 0, b"value");
     let counted = lines::put_number(line, word, b' ', count as u64);
-    lines::put_numbers(line, counted, &buffer[..count])
+    lines::put_short_numbers(line, counted, &buffer[..count])
 }
 
 // Puts the buffer behind a bar.
@@ -31,7 +31,7 @@ fn put_buffer(line: &mut [u8], at: usize, buffer: &[u16]) -> usize
     ensures { Wrote line.old line.new at result (lent_text buffer.now) }
 {
     let bar = lines::put(line, at, b" |");
-    lines::put_numbers(line, bar, buffer)
+    lines::put_short_numbers(line, bar, buffer)
 }
 
 // Evaluates the table whose words these are, in the lent buffer, and puts what came of it at the start of the line.

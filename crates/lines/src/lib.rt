@@ -3,7 +3,7 @@
 
 ghost use Rattle.std.specs.Prelude.{◌%◌, ◌^◌, ◌≡◌, drop};
 ghost use Rattle.fields.specs.Bytes.{signed};
-ghost use Rattle.lines.specs.Text.{Wrote, WroteNumbers, number, numeral, row_from, word_text};
+ghost use Rattle.lines.specs.Text.{Wrote, WroteNumbers, number, numbers, numeral, row_from, word_text};
 
 // Writes `bytes` from `at` on, and answers where they end.
 pub fn put(out: &mut [u8], at: usize, bytes: &[u8]) -> usize
@@ -71,8 +71,8 @@ pub fn put_words(
     end
 }
 
-// Writes each of the words as a number behind a space.
-pub fn put_numbers<W: Copy + Into<u64>>(out: &mut [u8], at: usize, words: &[W]) -> usize
+// Writes each of the words as a number behind a space. They are of any type that is a 64-bit number too.
+pub fn put_row<W: Copy + Into<u64>>(out: &mut [u8], at: usize, words: &[W]) -> usize
     ensures { WroteNumbers W.converts out.old out.new at result words.now }
 {
     let mut end = at;
@@ -80,4 +80,17 @@ pub fn put_numbers<W: Copy + Into<u64>>(out: &mut [u8], at: usize, words: &[W]) 
         end = put_number(out, end, b' ', (*word).into());
     }
     end
+}
+
+// The same of words of four bytes, and of two.
+pub fn put_numbers(out: &mut [u8], at: usize, words: &[u32]) -> usize
+    ensures { Wrote out.old out.new at result (numbers words.now) }
+{
+    put_row(out, at, words)
+}
+
+pub fn put_short_numbers(out: &mut [u8], at: usize, shorts: &[u16]) -> usize
+    ensures { Wrote out.old out.new at result (numbers shorts.now) }
+{
+    put_row(out, at, shorts)
 }

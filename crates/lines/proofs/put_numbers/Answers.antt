@@ -1,20 +1,7 @@
--- `lines::put_numbers` meets its contract: what is left to write makes the whole.
+-- `lines::put_numbers` meets its contract: the words are written as the numbers that they are.
 -- Assumes nothing.
-use Rattle.std.proofs.Common.{sym, ap, ◌∙◌}
-use Rattle.std.proofs.lemmas.List.{get_or-map, length-map}
-use Rattle.lines.specs.Text.{numbers}
-use Rattle.lines.proofs.Laws.{row_turns, row_ends_all}
-use Rattle.lines.proofs.put_numbers.Invariants.{spaced}
+use Rattle.lines.proofs.Laws.{wrote_numbers}
 use Rattle.lines.proofs.put_numbers.Goals as goal
 
-pub loop-word-preserved : goal.loop-word-preserved
-loop-word-preserved g c n agrees =
-    let ws = c.args.words.now in
-    let i = c.loop-word.word-index in
-    let same = agrees _ _ c.into.ensures ∙ ap n c.word-item.is ∙ sym (get_or-map n ws i c.word-item.result 0 c.loop-word-test.true) in
-    row_turns spaced _ _ _ _ _ _ _ _ _ (c.loop-word.invariant n agrees) (rw length-map c.loop-word-test.true) (rw same at c.put_number-end.ensures)
-
 pub returns : goal.returns
-unfolding numbers
-returns g c =
-    record { by = λ n agrees. row_ends_all spaced _ _ _ _ _ _ (c.loop-word.invariant n agrees) (rw length-map c.loop-word-test.false) }
+returns c = wrote_numbers c.put_row.ensures

@@ -6,8 +6,8 @@ use borrow.Author.Rules.{rules}
 use Rattle.answers_lines.proofs.Pixels.{results_put}
 use Rattle.answers_lines.proofs.pixel.put_results.Goals as goal
 
-pub slice_bounds-put_numbers-end : goal.slice_bounds-put_numbers-end
-slice_bounds-put_numbers-end c = sym (length-take-le _ _ (search rules))
+pub slice_bounds-put_short_numbers-end : goal.slice_bounds-put_short_numbers-end
+slice_bounds-put_short_numbers-end c = sym (length-take-le _ _ (search rules))
 
 pub returns : goal.returns
 returns c = search (rules, results_put)

@@ -1,9 +1,9 @@
--- `lines::put_numbers` meets its contract: what is left to write makes the whole.
+-- `lines::put_row` meets its contract: what is left to write makes the whole.
 -- Assumes nothing.
 use Rattle.std.proofs.Common.{◌≡◌, ℕ, List, map}
 use Rattle.lines.specs.Text.{number}
 use Rattle.lines.proofs.Laws.{Printing}
-use Rattle.lines.proofs.put_numbers.Given as goal
+use Rattle.lines.proofs.put_row.Given as goal
 
 abbrev pub spaced : ℕ → ℕ → List ℕ
 spaced i n = number 32 n
