@@ -34,7 +34,8 @@ from_half l m o at mid end before w h g v u =
     rw (le-ltb w (2 ^ 31) h, e) (joined v u)
 
 -- numbers that convert to themselves are written as they are
-pub wrote_numbers : {l m ns : List ℕ} {at end : ℕ} → WroteNumbers (λ (x y : ℕ). y ≡ x) l m at end ns → Wrote l m at end (numbers ns)
+pub wrote_numbers : {l m ns : List ℕ} {at end : ℕ} → WroteNumbers (λ (x y : ℕ). y ≡ x) 32 l m at end ns → Wrote l m at end (numbers ns)
+unfolding numbers
 wrote_numbers {l} {m} {ns} {at} {end} w = rw map-id at (w.by (λ x. x) (λ x y e. e))
 
 -- ---- the loop that writes a row: what is left to write makes the whole

@@ -40,6 +40,6 @@ pub record Wrote (before after : List ℕ) (at end : ℕ) (text : List ℕ) : Ty
   pub written : after ≡ sets before at text
   pub ends : end ≡ at + min (length text) (length before - at)
 
--- numbers of any type, each written behind a space as the number that it converts to
-pub record WroteNumbers {W : Type 0} (converts : W → ℕ → Type 0) (before after : List ℕ) (at end : ℕ) (words : List W) : Type 0 where
-  pub by : (number : W → ℕ) → ((x : W) (n : ℕ) → converts x n → n ≡ number x) → Wrote before after at end (numbers (map number words))
+-- numbers of any type, each written behind a byte as the number that it converts to
+pub record WroteNumbers {W : Type 0} (converts : W → ℕ → Type 0) (byte : ℕ) (before after : List ℕ) (at end : ℕ) (words : List W) : Type 0 where
+  pub by : (numbered : W → ℕ) → ((x : W) (n : ℕ) → converts x n → n ≡ numbered x) → Wrote before after at end (row_from (λ i n. number byte n) 0 (map numbered words))

@@ -71,26 +71,27 @@ pub fn put_words(
     end
 }
 
-// Writes each of the words as a number behind a space. They are of any type that is a 64-bit number too.
-pub fn put_row<W: Copy + Into<u64>>(out: &mut [u8], at: usize, words: &[W]) -> usize
-    ensures { WroteNumbers W.converts out.old out.new at result words.now }
+// Writes each of the words, of any type that is a 64-bit number too, as a number behind the byte.
+pub fn put_row<W: Copy + Into<u64>>(out: &mut [u8], at: usize, before: u8, words: &[W]) -> usize
+    ensures { WroteNumbers W.converts before out.old out.new at result words.now }
 {
     let mut end = at;
     for word in words {
-        end = put_number(out, end, b' ', (*word).into());
+        end = put_number(out, end, before, (*word).into());
     }
     end
 }
 
-// The same of words of four bytes, and of two.
+// Writes each of the words as a number behind a space.
 pub fn put_numbers(out: &mut [u8], at: usize, words: &[u32]) -> usize
     ensures { Wrote out.old out.new at result (numbers words.now) }
 {
-    put_row(out, at, words)
+    put_row(out, at, b' ', words)
 }
 
+// The same of numbers of two bytes.
 pub fn put_short_numbers(out: &mut [u8], at: usize, shorts: &[u16]) -> usize
     ensures { Wrote out.old out.new at result (numbers shorts.now) }
 {
-    put_row(out, at, shorts)
+    put_row(out, at, b' ', shorts)
 }
